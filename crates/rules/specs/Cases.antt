@@ -1,0 +1,108 @@
+-- "Cases": sessions in hexadecimal, with what a call answers, what is shown, and the report. proofs/Cases.antt proves the whole table.
+use Prim.Native.Nat.{ℕ, _+_, _-_, _*_}
+use Prim.Native.Char.{code}
+use Prim.Native.String.{String, [] as end, _∷_ as _then_, _++_}
+use mathlib.Core.Bool.{Bool, true, false, cond}
+use mathlib.Core.List.{List, [], _∷_}
+use lib.Dec.{eqb, ltb}
+use Rattle.rules.specs.Steps.{valid, invalid, accepted, content-is, took, commits, second-run}
+use Rattle.rules.specs.Calls.{Reply, no-command, answers, refusal}
+
+-- ---- Texts as bytes
+
+abbrev pub text : String → List ℕ
+text end = []
+text (c then s) = code c ∷ text s
+
+abbrev no-blanks : List ℕ → List ℕ
+no-blanks [] = []
+no-blanks (c ∷ cs) = let rest = no-blanks cs in cond (eqb c (code " ")) rest (c ∷ rest)
+
+-- a hexadecimal figure
+abbrev nibble : ℕ → ℕ
+nibble c = cond (ltb c (code "A")) (c - code "0") (c - code "A" + 10)
+
+abbrev pairs : List ℕ → List ℕ
+pairs [] = []
+pairs (a ∷ []) = []
+pairs (a ∷ b ∷ cs) = (nibble a * 16 + nibble b) ∷ pairs cs
+
+abbrev pub hex : String → List ℕ
+hex s = pairs (no-blanks (text s))
+
+-- ---- The table
+
+pub record Case : Type 0 where
+  pub session : String
+  pub answer : Reply
+  pub shown : String
+  pub lines : String
+
+abbrev case : String → Reply → String → String → Case
+case s a p l = record { session = s; answer = a; shown = p; lines = l }
+
+-- the fresh session; W up to the APPLY of save 0, with save 1 in its second run, whole
+abbrev fresh : String
+fresh = "01 01 00 "
+
+abbrev W-36 : String
+W-36 = "02 02 00 01  01 00  01 01  02 00 00  02 01 00  03 00 00 00 00 00 07  03 01 00 00 00 00 09  04 00  04 01  05 00  05 00  "
+
+abbrev W-38 : String
+W-38 = W-36 ++ "06 00  "
+
+abbrev W-43 : String
+W-43 = W-38 ++ "07 00 00  06 01  "
+
+abbrev W : String
+W = W-43 ++ "02 01 00  03 01 00 00 00 00 09  04 01  07 00 01  "
+
+-- save 0 reads the sheet, 1 reads and writes it, 2 reads it; all submitted
+abbrev three : String
+three = fresh ++ "01 00  01 01  01 02  02 00 00  02 01 00  02 02 00  03 01 00 00 00 00 05  04 00  04 01  04 02  "
+
+abbrev pub starred : List Case
+starred =
+    case W (answers accepted) "" "P 0 1 C\nP 1 2 C\nO 0 9 2\nO 1 0 0\nT 17 1 1\n"
+    ∷ case (W-43 ++ "02 01 00") (answers (content-is 7)) "" "P 0 1 C\nP 1 2 U\nO 0 7 1\nO 1 0 0\nT 14 1 0\n"
+    ∷ case (W-38 ++ "06 01") (refusal 38 10) "06 01" "P 0 1 C\nP 1 1 U\nO 0 0 0\nO 1 0 0\nT 11 1 0\nR 38 10\n"
+    ∷ case fresh no-command "" "O 0 0 0\nT 0 0 0\n"
+    ∷ case (fresh ++ "01 1F") (answers accepted) "" "O 0 0 0\nT 1 0 0\n"
+    ∷ case (fresh ++ "01 20") (refusal 3 4) "01 20" "O 0 0 0\nT 0 0 0\nR 3 4\n"
+    -- an empty claim commits
+    ∷ case (fresh ++ "01 00  04 00  06 00") (answers commits) "" "P 0 1 C\nO 0 0 0\nT 3 1 0\n"
+    -- 0 holds S, 1's X waits, 2 asks for S: it is failed and waits behind 1
+    ∷ case (three ++ "05 00  05 00  05 00") (answers (took 2 invalid)) "" "P 0 1 U\nP 1 1 U\nP 2 1 U\nO 0 0 0\nT 13 0 0\n"
+    ∷ case (three ++ "05 00  05 00  05 00  06 02") (refusal 37 10) "06 02" "P 0 1 U\nP 1 1 U\nP 2 1 U\nO 0 0 0\nT 13 0 0\nR 37 10\n"
+    -- GIVE UP in the second run, then APPLY; in the first run
+    ∷ case (W-43 ++ "08 01  07 00 01") (answers accepted) "" "P 0 1 C\nP 1 2 D\nO 0 7 1\nO 1 0 0\nT 15 1 0\n"
+    ∷ case (fresh ++ "01 00  08 00") (answers accepted) "" "O 0 0 0\nT 2 0 0\n"
+    -- second-run SUBMIT with no READ
+    ∷ case (W-43 ++ "04 01  07 00 01") (answers accepted) "" "P 0 1 C\nP 1 2 C\nO 0 7 1\nO 1 0 0\nT 15 1 1\n"
+    ∷ []
+
+-- the examples of the table of refused steps, 1 to 11
+abbrev pub refusals : List Case
+refusals =
+    case "00 01 00" (refusal 0 1) "" "R 0 1\n"
+    ∷ case (fresh ++ "09") (refusal 3 2) "09" "O 0 0 0\nT 0 0 0\nR 3 2\n"
+    ∷ case (fresh ++ "02 00") (refusal 3 3) "02 00" "O 0 0 0\nT 0 0 0\nR 3 3\n"
+    ∷ case (fresh ++ "04 00") (refusal 3 5) "04 00" "O 0 0 0\nT 0 0 0\nR 3 5\n"
+    ∷ case (fresh ++ "01 00 01 01 02 00 00 03 00 00 00 00 00 01 04 00 05 00 02 01 00") (refusal 21 6) "02 01 00" "P 0 1 U\nO 0 0 0\nT 6 0 0\nR 21 6\n"
+    ∷ case (fresh ++ "01 00 03 00 00 00 00 00 05") (refusal 5 7) "03 00 00 00 00 00 05" "O 0 0 0\nT 1 0 0\nR 5 7\n"
+    ∷ case (W-43 ++ "02 01 01") (refusal 43 8) "02 01 01" "P 0 1 C\nP 1 2 U\nO 0 7 1\nO 1 0 0\nT 13 1 0\nR 43 8\n"
+    ∷ case (fresh ++ "05 00") (refusal 3 9) "05 00" "O 0 0 0\nT 0 0 0\nR 3 9\n"
+    ∷ case (W ++ "07 00 01") (refusal 58 11) "07 00 01" "P 0 1 C\nP 1 2 C\nO 0 9 2\nO 1 0 0\nT 17 1 1\nR 58 11\n"
+    ∷ []
+
+-- the answers on the way through W, and two places where a reading that looks natural goes wrong
+abbrev pub others : List Case
+others =
+    case W-36 (answers (took 1 invalid)) "" "P 0 1 U\nP 1 1 U\nO 0 0 0\nO 1 0 0\nT 10 0 0\n"
+    ∷ case W-38 (answers commits) "" "P 0 1 C\nP 1 1 U\nO 0 0 0\nO 1 0 0\nT 11 1 0\n"
+    ∷ case W-43 (answers second-run) "" "P 0 1 C\nP 1 2 U\nO 0 7 1\nO 1 0 0\nT 13 1 0\n"
+    -- save 1 fails at sheet 0 and still has its entry at sheet 1, behind which save 2's X waits
+    ∷ case ("01 02 00 00  01 00  01 01  01 02  02 00 00  03 00 00 00 00 00 01  02 01 00  02 01 01  02 02 01  03 02 01 00 00 00 01  " ++ "04 00  04 01  04 02  05 00  05 00  05 00  06 02") (refusal 48 10) "06 02" "P 0 1 U\nP 1 1 U\nP 2 1 U\nO 0 0 0\nO 1 0 0\nT 15 0 0\nR 48 10\n"
+    -- save 0 is committed and not carried out: its X still fails save 1
+    ∷ case (fresh ++ "01 00  01 01  02 00 00  02 01 00  03 00 00 00 00 00 01  04 00  04 01  05 00  06 00  05 00") (answers (took 1 invalid)) "" "P 0 1 C\nP 1 1 U\nO 0 0 0\nT 10 1 0\n"
+    ∷ []

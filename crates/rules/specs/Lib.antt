@@ -1,0 +1,10 @@
+pub mod Table
+pub mod Sizes
+pub mod Bytes
+pub mod State
+pub mod Steps
+pub mod Serial
+pub mod Demand3
+pub mod Calls
+pub mod Report
+pub mod Cases

@@ -1,0 +1,122 @@
+-- "The serial run": a function of the accepted commands and DECIDE's answers. Of the header nothing is needed, a sheet being a number whoever owns it.
+use Prim.Native.Nat.{ℕ, zero, suc}
+use mathlib.Core.Bool.{Bool, true, false, _&&_, cond}
+use mathlib.Core.List.{List, [], _∷_, _++_, map, foldl}
+use mathlib.Core.Option.{Option, none, some}
+use lib.Dec.{ltb}
+use Rattle.rules.specs.Table.{upd, upd2, row}
+use Rattle.rules.specs.Bytes.{Command, Begin, Read, Write, Submit, Take, Decide, Apply, GiveUp}
+use Rattle.rules.specs.State.{Sheet, new-sheet, store, Mark, absent, written, is-written}
+use Rattle.rules.specs.Steps.{before, read-mark, Answer, accepted, content-is, took, commits, second-run, Event}
+
+-- ---- What the serial run is fed
+
+-- An accepted command, and whether it is a DECIDE that answered with the second run.
+pub record Fed : Type 0 where
+  pub command : Command
+  pub again : Bool
+
+abbrev pub says-again : Answer → Bool
+says-again accepted = false
+says-again (content-is v) = false
+says-again (took t v) = false
+says-again commits = false
+says-again second-run = true
+
+abbrev pub feed : Event → Fed
+feed e = record { command = e .command; again = says-again (e .answer) }
+
+-- ---- What the commands say by themselves
+
+pub record History : Type 0 where
+  pub order : List ℕ  -- the saves by first accepted SUBMIT
+  pub committed : ℕ → Bool  -- by a DECIDE that answers so or by a second-run SUBMIT
+  pub runs : ℕ → ℕ  -- runs entered: by BEGIN and by each DECIDE that answers with the second run
+  pub mark : ℕ → ℕ → Mark  -- save, sheet: READ, or written, in the last run
+  pub last : ℕ → ℕ → ℕ  -- save, sheet: the content last written
+  pub applied : ℕ → ℕ → Bool  -- node, save: its APPLY was accepted there
+
+unfoldable pub no-history : History
+no-history = record { order = []; committed = λ t. false; runs = λ t. 0; mark = λ t k. absent; last = λ t k. 0; applied = λ n t. false }
+
+abbrev pub enters : History → ℕ → History
+enters h t = record {
+  order = h .order;
+  committed = h .committed;
+  runs = upd (h .runs) t (suc (h .runs t));
+  mark = row (h .mark) t (λ k. absent);
+  last = h .last;
+  applied = h .applied;
+}
+
+abbrev pub commit : History → ℕ → History
+commit h t = record { order = h .order; committed = upd (h .committed) t true; runs = h .runs; mark = h .mark; last = h .last; applied = h .applied }
+
+abbrev pub join : History → ℕ → History
+join h t = record { order = h .order ++ t ∷ []; committed = h .committed; runs = h .runs; mark = h .mark; last = h .last; applied = h .applied }
+
+abbrev pub touch : History → (ℕ → ℕ → Mark) → (ℕ → ℕ → ℕ) → History
+touch h mark last = record { order = h .order; committed = h .committed; runs = h .runs; mark = mark; last = last; applied = h .applied }
+
+abbrev pub carry-out : History → ℕ → ℕ → History
+carry-out h n t = record { order = h .order; committed = h .committed; runs = h .runs; mark = h .mark; last = h .last; applied = upd2 (h .applied) n t true }
+
+abbrev pub hear : History → Command → (again : Bool) → History
+hear h (Begin t) a = enters h t
+hear h (Read t k) a = touch h (upd2 (h .mark) t k (read-mark (h .mark t k))) (h .last)
+hear h (Write t k v) a = touch h (upd2 (h .mark) t k written) (upd2 (h .last) t k v)
+hear h (Submit t) a = cond (ltb 1 (h .runs t)) (commit h t) (join h t)
+hear h (Take n) a = h
+hear h (Decide t) a = cond a (enters h t) (commit h t)
+hear h (Apply n t) a = carry-out h n t
+hear h (GiveUp t) a = h
+
+unfoldable pub heard : History → List Fed → History
+heard h [] = h
+heard h (f ∷ fs) = heard (hear h (f .command) (f .again)) fs
+
+abbrev pub history : List Fed → History
+history fs = heard no-history fs
+
+-- ---- The serial run
+
+-- Save t's turn at sheet k: a sheet written in the last run of a committed save gets the content last written to it.
+abbrev pub turn : History → ℕ → Sheet → ℕ → Sheet
+turn h k s t = cond (h .committed t && is-written (h .mark t k)) (store s (h .last t k)) s
+
+-- Sheet k after the turns of a list of saves, from content and WCT 0.
+unfoldable pub turns : History → ℕ → List ℕ → Sheet
+turns h k saves = foldl (turn h k) new-sheet saves
+
+-- what save t's first READ of sheet k meets
+abbrev pub serial-shows : List Fed → (t k : ℕ) → ℕ
+serial-shows fs t k = turns (history fs) k (before t (history fs .order)) .content
+
+-- what the serial run leaves of sheet k
+abbrev pub serial-leaves : List Fed → (k : ℕ) → Sheet
+serial-leaves fs k = turns (history fs) k (history fs .order)
+
+-- ---- What the READs were answered
+
+-- Save t's first READ of sheet k in its last run: what it answered, if there was one.
+abbrev pub first-answer : Option ℕ → Answer → Option ℕ
+first-answer (some v) a = some v
+first-answer none accepted = none
+first-answer none (content-is v) = some v
+first-answer none (took t v) = none
+first-answer none commits = none
+first-answer none second-run = none
+
+abbrev pub reads-after : (ℕ → ℕ → Option ℕ) → Command → Answer → ℕ → ℕ → Option ℕ
+reads-after r (Begin t) a = row r t (λ k. none)
+reads-after r (Read t k) a = upd2 r t k (first-answer (r t k) a)
+reads-after r (Write t k v) a = r
+reads-after r (Submit t) a = r
+reads-after r (Take n) a = r
+reads-after r (Decide t) a = cond (says-again a) (row r t (λ k. none)) r
+reads-after r (Apply n t) a = r
+reads-after r (GiveUp t) a = r
+
+unfoldable pub first-reads : (ℕ → ℕ → Option ℕ) → List Event → ℕ → ℕ → Option ℕ
+first-reads r [] = r
+first-reads r (e ∷ es) = first-reads (reads-after r (e .command) (e .answer)) es

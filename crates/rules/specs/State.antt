@@ -1,0 +1,147 @@
+-- What a session's commands work on: the nodes with their sheets and queues, the saves, the order, the tally.
+use Prim.Native.Nat.{ℕ, suc}
+use mathlib.Core.Bool.{Bool, true, false, _||_}
+use mathlib.Core.List.{List, []}
+use Rattle.rules.specs.Bytes.{Header}
+
+-- A sheet's content and its write counter, WCT (document 01's term). A save's own copy of a sheet is a content with the WCT seen.
+pub record Sheet : Type 0 where
+  pub content : ℕ
+  pub wct : ℕ
+
+abbrev pub new-sheet : Sheet
+new-sheet = record { content = 0; wct = 0 }
+
+-- A sheet that receives a content: the WCT rises by 1, also where the content was the same. APPLY and the serial run both store so.
+abbrev pub store : Sheet → ℕ → Sheet
+store s v = record { content = v; wct = suc (s .wct) }
+
+-- The phases of a save (document 01's term for a transaction).
+pub data Phase : Type 0 where
+  unused first submitted second committed dropped : Phase
+
+-- A save's own copy of a sheet in this run: there is none; it was read; it was also written.
+pub data Mark : Type 0 where
+  absent copied written : Mark
+
+-- What a save claims of a sheet (document 01's term for the locks it asks for): nothing, S or X.
+pub data Claim : Type 0 where
+  unclaimed shared exclusive : Claim
+
+-- T's figures: commands accepted, saves committed from the first run, from the second.
+pub record Tally : Type 0 where
+  pub accepted : ℕ
+  pub from-first : ℕ
+  pub from-second : ℕ
+
+-- Tables go by number: nodes n, sheets k, saves t.
+pub record State : Type 0 where
+  pub header : Header
+  pub sheet : ℕ → Sheet
+  pub queue : ℕ → List ℕ  -- a sheet's entries: saves, first come first; S or X as the save's claim says
+  pub phase : ℕ → Phase
+  pub mark : ℕ → ℕ → Mark  -- save, sheet
+  pub copy : ℕ → ℕ → Sheet  -- save, sheet: the copy, where the mark says that there is one
+  pub claim : ℕ → ℕ → Claim  -- save, sheet
+  pub failed : ℕ → Bool  -- the save's failed mark
+  pub runs : ℕ → ℕ  -- runs entered
+  pub order : List ℕ  -- the saves by first-run SUBMIT
+  pub place : ℕ → ℕ  -- of a save in the order
+  pub taken : ℕ → ℕ  -- how many places of the order a node has taken
+  pub tally : Tally
+
+-- "At the start every content and WCT is 0, no save is used, the order and all queues are empty, and no node has taken a save."
+unfoldable pub fresh : Header → State
+fresh h = record {
+  header = h;
+  sheet = λ k. new-sheet;
+  queue = λ k. [];
+  phase = λ t. unused;
+  mark = λ t k. absent;
+  copy = λ t k. new-sheet;
+  claim = λ t k. unclaimed;
+  failed = λ t. false;
+  runs = λ t. 0;
+  order = [];
+  place = λ t. 0;
+  taken = λ n. 0;
+  tally = record { accepted = 0; from-first = 0; from-second = 0 };
+}
+
+-- ---- Tests
+
+abbrev pub is-unused : Phase → Bool
+is-unused unused = true
+is-unused first = false
+is-unused submitted = false
+is-unused second = false
+is-unused committed = false
+is-unused dropped = false
+
+abbrev pub is-first : Phase → Bool
+is-first unused = false
+is-first first = true
+is-first submitted = false
+is-first second = false
+is-first committed = false
+is-first dropped = false
+
+abbrev pub is-second : Phase → Bool
+is-second unused = false
+is-second first = false
+is-second submitted = false
+is-second second = true
+is-second committed = false
+is-second dropped = false
+
+abbrev pub is-submitted : Phase → Bool
+is-submitted unused = false
+is-submitted first = false
+is-submitted submitted = true
+is-submitted second = false
+is-submitted committed = false
+is-submitted dropped = false
+
+abbrev pub is-committed : Phase → Bool
+is-committed unused = false
+is-committed first = false
+is-committed submitted = false
+is-committed second = false
+is-committed committed = true
+is-committed dropped = false
+
+abbrev pub is-dropped : Phase → Bool
+is-dropped unused = false
+is-dropped first = false
+is-dropped submitted = false
+is-dropped second = false
+is-dropped committed = false
+is-dropped dropped = true
+
+-- a running save: first or second run
+abbrev pub running : Phase → Bool
+running p = is-first p || is-second p
+
+-- a save with an outcome to carry out
+abbrev pub over : Phase → Bool
+over p = is-committed p || is-dropped p
+
+abbrev pub has-copy : Mark → Bool
+has-copy absent = false
+has-copy copied = true
+has-copy written = true
+
+abbrev pub is-written : Mark → Bool
+is-written absent = false
+is-written copied = false
+is-written written = true
+
+abbrev pub claims : Claim → Bool
+claims unclaimed = false
+claims shared = true
+claims exclusive = true
+
+abbrev pub is-x : Claim → Bool
+is-x unclaimed = false
+is-x shared = false
+is-x exclusive = true

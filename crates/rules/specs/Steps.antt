@@ -1,0 +1,340 @@
+-- "The step rules" and "Refused steps": for each command its tests with their refusal numbers, its effect and its answer.
+use Prim.Native.Nat.{ℕ, zero, suc}
+use mathlib.Core.Bool.{Bool, true, false, not, _&&_, _||_, cond}
+use mathlib.Core.List.{List, [], _∷_, _++_}
+use lib.ListN.{length, getD}
+use lib.Dec.{eqb, ltb}
+use Rattle.rules.specs.Table.{upd, upd2, row, all, any}
+use Rattle.rules.specs.Sizes.{max-saves}
+use Rattle.rules.specs.Bytes.{Command, Begin, Read, Write, Submit, Take, Decide, Apply, GiveUp}
+use Rattle.rules.specs.State.{Sheet, store, Phase, unused, first, submitted, second, committed, dropped, Mark, absent, copied, written, Claim, unclaimed, shared, exclusive, Tally, State, is-unused, is-first, is-second, is-submitted, is-committed, running, over, has-copy, is-written, claims, is-x}
+
+-- ---- Queues: lists of saves, first come first
+
+abbrev pub mem : ℕ → List ℕ → Bool
+mem t [] = false
+mem t (u ∷ q) = eqb u t || mem t q
+
+-- some save of the list passes the test
+abbrev pub holds : (ℕ → Bool) → List ℕ → Bool
+holds x [] = false
+holds x (u ∷ q) = x u || holds x q
+
+-- what stands before save t
+abbrev pub before : ℕ → List ℕ → List ℕ
+before t [] = []
+before t (u ∷ q) = cond (eqb u t) [] (u ∷ before t q)
+
+abbrev pub without : ℕ → List ℕ → List ℕ
+without t [] = []
+without t (u ∷ q) = cond (eqb u t) (without t q) (u ∷ without t q)
+
+abbrev pub empty : List ℕ → Bool
+empty [] = true
+empty (u ∷ q) = false
+
+-- the front entry passes the test
+abbrev pub at-front : (ℕ → Bool) → List ℕ → Bool
+at-front x [] = false
+at-front x (u ∷ q) = x u
+
+-- save u's entry at sheet k is an X
+unfoldable pub x-on : (ℕ → ℕ → Claim) → ℕ → ℕ → Bool
+x-on claim k u = is-x (claim u k)
+
+-- ---- Granting
+
+-- An S entry is granted when no X stands before it, an X entry when it stands first.
+abbrev pub granted-as : Claim → (x : ℕ → Bool) (ahead : List ℕ) → Bool
+granted-as unclaimed x ahead = true
+granted-as shared x ahead = not (holds x ahead)
+granted-as exclusive x ahead = empty ahead
+
+abbrev pub granted : State → ℕ → ℕ → Bool
+granted s t k = granted-as (s .claim t k) (x-on (s .claim) k) (before t (s .queue k))
+
+-- ---- What the tests ask
+
+-- node n owns sheet k
+abbrev pub owns : State → ℕ → ℕ → Bool
+owns s n k = eqb (s .header .owner k) n
+
+-- node n has taken save t
+abbrev pub has-taken : State → ℕ → ℕ → Bool
+has-taken s n t = ltb (s .place t) (s .taken n)
+
+-- the next submitted save for node n
+abbrev pub next : State → ℕ → ℕ
+next s n = getD (s .order) (s .taken n) 0
+
+-- TAKE marks the save failed at claimed sheet k: its queue holds an X, granted or waiting, or the copy's WCT is below the sheet's
+abbrev pub fails-at : State → ℕ → ℕ → Bool
+fails-at s t k = claims (s .claim t k) && (holds (x-on (s .claim) k) (s .queue k) || ltb (s .copy t k .wct) (s .sheet k .wct))
+
+-- node n finds save t invalid
+abbrev pub finds-invalid : State → ℕ → ℕ → Bool
+finds-invalid s n t = any (s .header .sheets) (λ k. owns s n k && fails-at s t k)
+
+-- save t has an entry at node n
+abbrev pub has-entry : State → ℕ → ℕ → Bool
+has-entry s n t = any (s .header .sheets) (λ k. owns s n k && mem t (s .queue k))
+
+-- ---- Refusals
+
+-- A test with the number of the refusal that is given where it fails.
+pub record Test : Type 0 where
+  pub passes : Bool
+  pub number : ℕ
+
+pub data Checked : Type 0 where
+  pass : Checked
+  refuse : (number : ℕ) → Checked
+
+-- The first test that fails gives the refusal.
+abbrev pub first-failed : List Test → Checked
+first-failed [] = pass
+first-failed (g ∷ gs) = cond (g .passes) (first-failed gs) (refuse (g .number))
+
+abbrev test : Bool → ℕ → Test
+test b n = record { passes = b; number = n }
+
+-- "per command 2, 3, 4, 5, 8, 6, 7, 9, 10, 11"; 2 and 3 are given where the bytes are read
+abbrev pub tests : State → Command → List Test
+tests s (Begin t) = test (ltb t max-saves) 4 ∷ test (is-unused (s .phase t)) 5 ∷ []
+tests s (Read t k) =
+    test (ltb t max-saves) 4 ∷ test (ltb k (s .header .sheets)) 4 ∷ test (running (s .phase t)) 5
+    ∷ test (is-first (s .phase t) || claims (s .claim t k)) 8
+    ∷ test (is-second (s .phase t) || (has-copy (s .mark t k) || not (at-front (x-on (s .claim) k) (s .queue k)))) 6 ∷ []
+tests s (Write t k v) =
+    test (ltb t max-saves) 4 ∷ test (ltb k (s .header .sheets)) 4 ∷ test (running (s .phase t)) 5
+    ∷ test (is-first (s .phase t) || is-x (s .claim t k)) 8 ∷ test (has-copy (s .mark t k)) 7 ∷ []
+tests s (Submit t) = test (ltb t max-saves) 4 ∷ test (running (s .phase t)) 5 ∷ []
+tests s (Take n) = test (ltb n (s .header .nodes)) 4 ∷ test (ltb (s .taken n) (length (s .order))) 9 ∷ []
+tests s (Decide t) =
+    test (ltb t max-saves) 4 ∷ test (is-submitted (s .phase t)) 5
+    ∷ test (all (s .header .sheets) (λ k. not (claims (s .claim t k)) || has-taken s (s .header .owner k) t)) 10
+    ∷ test (all (s .header .sheets) (λ k. granted s t k)) 10 ∷ []
+tests s (Apply n t) =
+    test (ltb n (s .header .nodes)) 4 ∷ test (ltb t max-saves) 4 ∷ test (over (s .phase t)) 5 ∷ test (has-entry s n t) 11 ∷ []
+tests s (GiveUp t) = test (ltb t max-saves) 4 ∷ test (running (s .phase t)) 5 ∷ []
+
+abbrev pub check : State → Command → Checked
+check s c = first-failed (tests s c)
+
+-- ---- Effects
+
+-- a command accepted; one that commits a save from its first run, from its second
+abbrev pub counted : Tally → Tally
+counted a = record { accepted = suc (a .accepted); from-first = a .from-first; from-second = a .from-second }
+
+abbrev pub counted-first : Tally → Tally
+counted-first a = record { accepted = suc (a .accepted); from-first = suc (a .from-first); from-second = a .from-second }
+
+abbrev pub counted-second : Tally → Tally
+counted-second a = record { accepted = suc (a .accepted); from-first = a .from-first; from-second = suc (a .from-second) }
+
+-- saves with new phases, marks and counts of runs
+abbrev pub with-saves : State → (ℕ → Phase) → (ℕ → ℕ → Mark) → (ℕ → ℕ) → Tally → State
+with-saves s phase mark runs tally = record {
+  header = s .header;
+  sheet = s .sheet;
+  queue = s .queue;
+  phase = phase;
+  mark = mark;
+  copy = s .copy;
+  claim = s .claim;
+  failed = s .failed;
+  runs = runs;
+  order = s .order;
+  place = s .place;
+  taken = s .taken;
+  tally = tally;
+}
+
+abbrev pub with-phase : State → ℕ → Phase → Tally → State
+with-phase s t p tally = with-saves s (upd (s .phase) t p) (s .mark) (s .runs) tally
+
+-- save t enters a run
+abbrev pub enter-run : State → ℕ → Phase → (ℕ → ℕ → Mark) → State
+enter-run s t p mark = with-saves s (upd (s .phase) t p) mark (upd (s .runs) t (suc (s .runs t))) (counted (s .tally))
+
+-- save t's own copy of sheet k
+abbrev pub with-copy : State → ℕ → ℕ → Mark → Sheet → State
+with-copy s t k mark copy = record {
+  header = s .header;
+  sheet = s .sheet;
+  queue = s .queue;
+  phase = s .phase;
+  mark = upd2 (s .mark) t k mark;
+  copy = upd2 (s .copy) t k copy;
+  claim = s .claim;
+  failed = s .failed;
+  runs = s .runs;
+  order = s .order;
+  place = s .place;
+  taken = s .taken;
+  tally = counted (s .tally);
+}
+
+-- READ: a save with its own copy keeps it; otherwise the owner's content and WCT are copied
+abbrev pub read-mark : Mark → Mark
+read-mark absent = copied
+read-mark copied = copied
+read-mark written = written
+
+abbrev pub read-copy : Mark → (own owner's : Sheet) → Sheet
+read-copy absent own owner's = owner's
+read-copy copied own owner's = own
+read-copy written own owner's = own
+
+-- SUBMIT: the sheets with copies become the claim, X where written, S otherwise
+abbrev pub claim-of : Mark → Claim
+claim-of absent = unclaimed
+claim-of copied = shared
+claim-of written = exclusive
+
+-- first run: the save joins the end of the order
+abbrev pub join-order : State → ℕ → State
+join-order s t = record {
+  header = s .header;
+  sheet = s .sheet;
+  queue = s .queue;
+  phase = upd (s .phase) t submitted;
+  mark = s .mark;
+  copy = s .copy;
+  claim = row (s .claim) t (λ k. claim-of (s .mark t k));
+  failed = s .failed;
+  runs = s .runs;
+  order = s .order ++ t ∷ [];
+  place = upd (s .place) t (length (s .order));
+  taken = s .taken;
+  tally = counted (s .tally);
+}
+
+abbrev pub submit-save : (first-run : Bool) → State → ℕ → State
+submit-save true s t = join-order s t
+submit-save false s t = with-phase s t committed (counted-second (s .tally))
+
+-- TAKE: an entry is added at the end of the queue of each claimed sheet that node n owns, also after one that fails
+abbrev pub take-save : State → ℕ → ℕ → State
+take-save s n t = record {
+  header = s .header;
+  sheet = s .sheet;
+  queue = λ k. cond (owns s n k && claims (s .claim t k)) (s .queue k ++ t ∷ []) (s .queue k);
+  phase = s .phase;
+  mark = s .mark;
+  copy = s .copy;
+  claim = s .claim;
+  failed = upd (s .failed) t (s .failed t || finds-invalid s n t);
+  runs = s .runs;
+  order = s .order;
+  place = s .place;
+  taken = upd (s .taken) n (suc (s .taken n));
+  tally = counted (s .tally);
+}
+
+-- DECIDE. Not failed: committed. Failed: the copies are cleared, the claim and the entries stay, the second run begins.
+abbrev pub decide-save : (failed : Bool) → State → ℕ → State
+decide-save false s t = with-phase s t committed (counted-first (s .tally))
+decide-save true s t = enter-run s t second (row (s .mark) t (λ k. absent))
+
+-- APPLY: sheet k of node n was written in the last run of a committed t
+abbrev pub receives : State → ℕ → ℕ → ℕ → Bool
+receives s n t k = owns s n k && (is-committed (s .phase t) && is-written (s .mark t k))
+
+abbrev pub apply-save : State → ℕ → ℕ → State
+apply-save s n t = record {
+  header = s .header;
+  sheet = λ k. cond (receives s n t k) (store (s .sheet k) (s .copy t k .content)) (s .sheet k);
+  queue = λ k. cond (owns s n k) (without t (s .queue k)) (s .queue k);
+  phase = s .phase;
+  mark = s .mark;
+  copy = s .copy;
+  claim = s .claim;
+  failed = s .failed;
+  runs = s .runs;
+  order = s .order;
+  place = s .place;
+  taken = s .taken;
+  tally = counted (s .tally);
+}
+
+abbrev pub effect : State → Command → State
+effect s (Begin t) = enter-run s t first (s .mark)
+effect s (Read t k) = with-copy s t k (read-mark (s .mark t k)) (read-copy (s .mark t k) (s .copy t k) (s .sheet k))
+effect s (Write t k v) = with-copy s t k written (record { content = v; wct = s .copy t k .wct })
+effect s (Submit t) = submit-save (is-first (s .phase t)) s t
+effect s (Take n) = take-save s n (next s n)
+effect s (Decide t) = decide-save (s .failed t) s t
+effect s (Apply n t) = apply-save s n t
+effect s (GiveUp t) = with-phase s t dropped (counted (s .tally))
+
+-- ---- Answers
+
+pub data Verdict : Type 0 where
+  valid invalid : Verdict
+
+pub data Answer : Type 0 where
+  accepted : Answer
+  content-is : (v : ℕ) → Answer
+  took : (t : ℕ) → Verdict → Answer
+  commits : Answer
+  second-run : Answer
+
+abbrev pub verdict : (found-invalid : Bool) → Verdict
+verdict true = invalid
+verdict false = valid
+
+abbrev pub decision : (failed : Bool) → Answer
+decision true = second-run
+decision false = commits
+
+abbrev pub answer : State → Command → Answer
+answer s (Begin t) = accepted
+answer s (Read t k) = content-is (read-copy (s .mark t k) (s .copy t k) (s .sheet k) .content)
+answer s (Write t k v) = accepted
+answer s (Submit t) = accepted
+answer s (Take n) = took (next s n) (verdict (finds-invalid s n (next s n)))
+answer s (Decide t) = decision (s .failed t)
+answer s (Apply n t) = accepted
+answer s (GiveUp t) = accepted
+
+-- ---- A step, and a list of commands
+
+pub data Result : Type 0 where
+  answered : Answer → Result
+  refused : (number : ℕ) → Result
+
+pub record Stepped : Type 0 where
+  pub state : State
+  pub result : Result
+
+abbrev pub step-by : Checked → State → Command → Stepped
+step-by pass s c = record { state = effect s c; result = answered (answer s c) }
+step-by (refuse n) s c = record { state = s; result = refused n }
+
+-- One command. A refused one changes nothing.
+abbrev pub step : State → Command → Stepped
+step s c = step-by (check s c) s c
+
+pub record Event : Type 0 where
+  pub command : Command
+  pub answer : Answer
+
+-- the accepted commands with their answers, the state after them, and what ended the list
+pub record Ran : Type 0 where
+  pub events : List Event
+  pub state : State
+  pub end : Checked
+
+abbrev pub prepend : Event → Ran → Ran
+prepend e r = record { events = e ∷ r .events; state = r .state; end = r .end }
+
+abbrev pub run-on : Result → Command → State → (State → Ran) → Ran
+run-on (answered a) c s on = prepend (record { command = c; answer = a }) (on s)
+run-on (refused n) c s on = record { events = []; state = s; end = refuse n }
+
+-- The commands up to the end or the first refused one, each step from the state that the last one left.
+unfoldable pub run : State → List Command → Ran
+run s [] = record { events = []; state = s; end = pass }
+run s (c ∷ cs) = run-on (step s c .result) c (step s c .state) (λ s′. run s′ cs)
