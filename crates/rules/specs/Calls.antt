@@ -14,8 +14,8 @@ session-run b = run (fresh (header b)) (session-commands b)
 
 -- ---- Where a session stops
 
-abbrev pub at : List Step → ℕ → Step
-at steps i = getD steps i (record { offset = 0; size = 0; command = Take 0 })
+abbrev pub step-at : List Step → ℕ → Step
+step-at steps i = getD steps i (record { offset = 0; size = 0; command = Take 0 })
 
 -- the refused command is the one after the accepted ones; where all are accepted, reading may have stopped
 abbrev pub stop-by : Checked → Step → Stop → Stop
@@ -23,7 +23,7 @@ stop-by pass s read = read
 stop-by (refuse n) s read = stopped (s .offset) n (s .size)
 
 abbrev pub stop-if : (opens : Bool) → List ℕ → Stop
-stop-if true b = stop-by (session-run b .end) (at (reading b .steps) (length (session-run b .events))) (reading b .stop)
+stop-if true b = stop-by (session-run b .end) (step-at (reading b .steps) (length (session-run b .events))) (reading b .stop)
 stop-if false b = stopped 0 1 0
 
 unfoldable pub stop : List ℕ → Stop

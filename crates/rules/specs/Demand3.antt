@@ -25,14 +25,14 @@ fed h cs = map feed (events h cs)
 abbrev pub told : Header → List Command → History
 told h cs = history (fed h cs)
 
-abbrev pub answers : Header → List Command → ℕ → ℕ → Option ℕ
-answers h cs = first-reads (λ t k. none) (events h cs)
+abbrev pub first-answers : Header → List Command → ℕ → ℕ → Option ℕ
+first-answers h cs = first-reads (λ t k. none) (events h cs)
 
 -- ---- The clauses
 
 -- The first READ of each sheet in the last run of each committed save answered exactly the content that the serial run shows it.
 abbrev pub Reads : Header → List Command → Type 0
-Reads h cs = (t k v : ℕ) → told h cs .committed t ≡ true → answers h cs t k ≡ some v → v ≡ serial-shows (fed h cs) t k
+Reads h cs = (t k v : ℕ) → told h cs .committed t ≡ true → first-answers h cs t k ≡ some v → v ≡ serial-shows (fed h cs) t k
 
 -- Every committed save is carried out at all its nodes: its APPLY was accepted at each node that owns a sheet of its claim.
 abbrev pub CarriedOut : Header → List Command → Type 0

@@ -93,16 +93,16 @@ report-if false b = stop-line (stop b)
 unfoldable pub report : List ℕ → List ℕ
 report b = report-if (opens b) b
 
--- ---- The call: a length and the buffer after it
+-- ---- The call: the report's length and the buffer after it
 
 pub record Filled : Type 0 where
-  pub length : ℕ
+  pub size : ℕ
   pub buffer : List ℕ
 
 -- the text at the front; bytes beyond it stay
-abbrev pub at-front : List ℕ → List ℕ → Filled
-at-front text buffer = record { length = length text; buffer = text ++ drop (length text) buffer }
+abbrev pub in-front : List ℕ → List ℕ → Filled
+in-front text buffer = record { size = length text; buffer = text ++ drop (length text) buffer }
 
 -- refusal 12: a buffer under 4,096 bytes; nothing is written, the length is 0
 unfoldable pub report-call : (session buffer : List ℕ) → Filled
-report-call b buffer = cond (ltb (length buffer) min-buffer) (record { length = 0; buffer = buffer }) (at-front (report b) buffer)
+report-call b buffer = cond (ltb (length buffer) min-buffer) (record { size = 0; buffer = buffer }) (in-front (report b) buffer)
