@@ -1,0 +1,152 @@
+-- The second-run SUBMIT and DECIDE keep the invariant.
+use Prim.Native.Nat.{ℕ, zero, suc, _≤_, _<_}
+use mathlib.Core.Path.{_≡_, refl, sym, ap, _∙_, fun-ext}
+use mathlib.Core.Bool.{Bool, true, false, not, _&&_, _||_, true≢false, and-false}
+use mathlib.Core.Logic.{_≢_}
+use mathlib.Core.List.{List}
+use mathlib.Core.Option.{Option, none, some}
+use native.Mathlib.Omega.{arith}
+use lib.ListN.{length}
+use borrow.Author.Tests.{not-true, ltb-true}
+use Rattle.rules.specs.Table.{upd, row, all}
+use Rattle.rules.specs.Sizes.{max-saves}
+use Rattle.rules.specs.State.{Phase, unused, first, submitted, second, committed, dropped, Mark, absent, Claim, unclaimed, shared, exclusive, Tally, State, is-unused, is-committed, over, has-copy, is-written, claims, is-x}
+use Rattle.rules.specs.Steps.{mem, holds, before, empty, x-on, granted-as, granted, has-taken, with-phase, decide-save}
+use Rattle.rules.specs.Serial.{History, enters, commit}
+use Rattle.rules.proofs.Table.{bool, same?, clash, upd-same, upd-other, upd-at, row-at, row-same, row-other, all-at}
+use Rattle.rules.proofs.Places.{fold-own, entries-in, entries-before, holds-mem, empty-mem}
+use Rattle.rules.proofs.Invariant.{needs-place, closed, RunsOf, Sure, Stands, live, storing, stores, left-by, Inv}
+use Rattle.rules.proofs.Phases.{x-claims, live-not, runs-two, not-applied, Covers, covered, places-phase, copies-phase, locks-phase, values-phase}
+
+-- ---- A save becomes committed
+
+pub keeps-commit : (s : State) (l : History) (r : ℕ → ℕ → Option ℕ) (t : ℕ) (tally : Tally) → Inv s l r → t < max-saves → over (s .phase t) ≡ false → needs-place (s .phase t) ≡ true
+    → closed (s .phase t) ≡ true
+    → ((k : ℕ) → claims (s .claim t k) ≡ true → Sure (s .phase t) (s .failed t) (s .place t) (s .taken (s .header .owner k)))
+    → ((u k : ℕ) → is-x (s .claim t k) ≡ true → s .place u < s .place t → claims (s .claim u k) ≡ true → l .applied (s .header .owner k) u ≡ true)
+    → Inv (with-phase s t committed tally) (commit l t) r
+keeps-commit s l r t tally v ht end np cl sure al = record {
+  places = places-phase t committed ht (λ _. refl) (λ _. v .places .stands t np) (v .places);
+  copies = copies-phase t committed refl (λ _. cov) (v .copies);
+  locks = locks-phase t committed end (λ u k _ y. v .locks .settled t u k (sure k y) y) (λ u k _. al u k) (v .locks);
+  queues = v .queues;
+  linked = record {
+    order-same = v .linked .order-same;
+    mark-same = v .linked .mark-same;
+    runs-same = v .linked .runs-same;
+    commit-same = λ x. same? x t (λ e. rw e (simp upd-same)) (λ n. simp upd-other (v .linked .commit-same x));
+    last-same = v .linked .last-same;
+    runs-right = λ x. upd-at (λ y. RunsOf y (s .runs x)) (s .phase) t committed x (λ e. runs-two (s .phase x) (s .runs x) (v .linked .runs-right x)) (λ n. v .linked .runs-right x);
+    unread = v .linked .unread;
+  };
+  values = values-phase s (l .applied) r t committed (s .runs) tally end (λ k y c _. sure k c) (λ _. cov) (v .locks) (v .values);
+}
+  where
+    cov : Covers (s .mark) (s .claim) t
+    cov = covered t cl (v .copies)
+
+pub keeps-resubmit : (s : State) (l : History) (r : ℕ → ℕ → Option ℕ) (t : ℕ) (tally : Tally) → Inv s l r → t < max-saves → s .phase t ≡ second → Inv (with-phase s t committed tally) (commit l t) r
+keeps-resubmit s l r t tally v ht u = keeps-commit s l r t tally v ht (rw u) (rw u) (rw u) (λ k y. rw u tt) (λ w k x. v .locks .alone t w k (rw u) x)
+
+-- ---- DECIDE
+
+claimed-taken : (c b : Bool) → not c || b ≡ true → c ≡ true → b ≡ true
+claimed-taken true b e f = e
+claimed-taken false b e f = absurd (true≢false (sym f))
+
+module _ (s : State) (l : History) (r : ℕ → ℕ → Option ℕ) (t : ℕ) (v : Inv s l r) (ht : t < max-saves) (sub : s .phase t ≡ submitted)
+    (by-all : all (s .header .sheets) (λ k. not (claims (s .claim t k)) || has-taken s (s .header .owner k) t) ≡ true)
+    (all-granted : all (s .header .sheets) (λ k. granted s t k) ≡ true) where
+  grants : (k : ℕ) → claims (s .claim t k) ≡ true → granted s t k ≡ true
+  grants k y = all-at (s .header .sheets) (λ k. granted s t k) all-granted k (v .copies .claim-range t k y)
+
+  taken-at : (k : ℕ) → claims (s .claim t k) ≡ true → s .place t < s .taken (s .header .owner k)
+  taken-at k y = ltb-true (s .place t) (s .taken (s .header .owner k)) (claimed-taken (claims (s .claim t k)) (has-taken s (s .header .owner k) t)
+      (all-at (s .header .sheets) (λ k. not (claims (s .claim t k)) || has-taken s (s .header .owner k) t) by-all k (v .copies .claim-range t k y)) y)
+
+  st : Stands (s .order) (s .place) t
+  st = v .places .stands t (rw sub)
+
+  abbrev f : ℕ → ℕ → Bool
+  f k = live (s .header .owner) (s .claim) (l .applied) k
+
+  alive : (k : ℕ) → claims (s .claim t k) ≡ true → f k t ≡ true
+  unfolding live
+  alive k y = simp (y, not-applied t (s .header .owner k) (rw sub) (v .locks))
+
+  -- a live save of a smaller place stands before t
+  in-front : (u k : ℕ) → claims (s .claim t k) ≡ true → claims (s .claim u k) ≡ true → s .place u < s .place t → f k u ≡ true → mem u (before t (s .queue k)) ≡ true
+  in-front u k y c o a =
+      rw (v .queues k, entries-before (s .order) (s .place) (f k) (s .taken (s .header .owner k)) t (taken-at k y) (st .1) (alive k y))
+      (entries-in (s .order) (s .place) (f k) (s .place t) u o (v .places .claim-stands u k c .1) a)
+
+  -- no X that is not carried out stands before t
+  no-x : (u k : ℕ) → claims (s .claim t k) ≡ true → s .place u < s .place t → is-x (s .claim u k) ≡ true → l .applied (s .header .owner k) u ≡ true
+  unfolding x-on
+  no-x u k y o x = live-not (s .header .owner) (s .claim) (l .applied) k u cu (λ a. go (s .claim t k) (grants k y) y (in-front u k y cu o a))
+    where
+      cu : claims (s .claim u k) ≡ true
+      cu = x-claims (s .claim u k) x
+
+      go : (c : Claim) → granted-as c (x-on (s .claim) k) (before t (s .queue k)) ≡ true → claims c ≡ true → mem u (before t (s .queue k)) ≡ true → ⊥
+      go unclaimed g z a = true≢false (sym z)
+      go shared g z a = true≢false (sym x ∙ holds-mem (x-on (s .claim) k) (before t (s .queue k)) u (not-true (holds (x-on (s .claim) k) (before t (s .queue k))) g) a)
+      go exclusive g z a = empty-mem (before t (s .queue k)) u g a
+
+  -- where t is an X, nothing that is not carried out stands before it
+  first-in-line : (u k : ℕ) → is-x (s .claim t k) ≡ true → s .place u < s .place t → claims (s .claim u k) ≡ true → l .applied (s .header .owner k) u ≡ true
+  first-in-line u k x o y =
+      let c = x-claims (s .claim t k) x in
+      live-not (s .header .owner) (s .claim) (l .applied) k u y (λ a. go (s .claim t k) (grants k c) x (in-front u k c y o a))
+    where
+      go : (c : Claim) → granted-as c (x-on (s .claim) k) (before t (s .queue k)) ≡ true → is-x c ≡ true → mem u (before t (s .queue k)) ≡ true → ⊥
+      go unclaimed g z a = true≢false (sym z)
+      go shared g z a = true≢false (sym z)
+      go exclusive g z a = empty-mem (before t (s .queue k)) u g a
+
+  pub keeps-decide-commit : s .failed t ≡ false → Inv (decide-save false s t) (commit l t) r
+  keeps-decide-commit ok = keeps-commit s l r t _ v ht (rw sub) (rw sub) (rw sub) (λ k y. rw (sub, ok) (refl, taken-at k y)) first-in-line
+
+  abbrev d′ : State
+  d′ = decide-save true s t
+
+  idle : is-committed (s .phase t) ≡ false
+  idle = rw sub
+
+  -- t stores nothing, before or after
+  same-left : (k p : ℕ) (w x : ℕ → Bool) → w t ≡ false → x t ≡ false → ((u : ℕ) → u ≢ t → w u ≡ x u) → left-by s w k p ≡ left-by s x k p
+  same-left k p w x e f h = fold-own (s .order) (s .place) w x (λ u. s .copy u k .content) (λ u. s .copy u k .content) t p e f h (λ u n. refl)
+
+  pub keeps-decide-second : Inv d′ (enters l t) (row r t (λ k. none))
+  unfolding storing stores
+  keeps-decide-second = record {
+    places = places-phase t second ht (λ _. refl) (λ _. st) (v .places);
+    copies = record {
+      copied-range = λ u k. row-at (λ m. has-copy m ≡ true → k < s .header .sheets) (s .mark) t (λ _. absent) u k (λ _ y. absurd (true≢false (sym y))) (λ _. v .copies .copied-range u k);
+      claim-range = v .copies .claim-range;
+      copied-claimed = λ u k. same? u t (λ e. rw e (simp (upd-same, row-same) (λ _ y. absurd (true≢false (sym y))))) (λ n. simp (upd-other, row-other) (v .copies .copied-claimed u k));
+      written-x = λ u k. same? u t (λ e. rw e (simp (upd-same, row-same) (λ _ y. absurd (true≢false (sym y))))) (λ n. simp (upd-other, row-other) (v .copies .written-x u k));
+      unused-absent = λ u k. same? u t (λ e. rw e (simp (upd-same, row-same) (λ _. refl))) (λ n. simp (upd-other, row-other) (v .copies .unused-absent u k));
+    };
+    locks = locks-phase t second (rw sub) (λ u k _. no-x u k) (λ u k _. first-in-line u k) (v .locks);
+    queues = v .queues;
+    linked = record {
+      order-same = v .linked .order-same;
+      mark-same = rw (v .linked .mark-same);
+      runs-same = rw (v .linked .runs-same);
+      commit-same = λ x. upd-at (λ y. l .committed x ≡ is-committed y) (s .phase) t second x (λ e. rw (e, v .linked .commit-same t, sub)) (λ _. v .linked .commit-same x);
+      last-same = λ u k. row-at (λ m. is-written m ≡ true → l .last u k ≡ s .copy u k .content) (s .mark) t (λ _. absent) u k (λ _ y. absurd (true≢false (sym y))) (λ _. v .linked .last-same u k);
+      runs-right = λ x. same? x t (λ e. rw e (simp upd-same (ap suc (rw sub at (v .linked .runs-right t))))) (λ n. simp upd-other (v .linked .runs-right x));
+      unread = λ u k. same? u t (λ e. rw e (simp row-same (λ _. refl))) (λ n. simp row-other (v .linked .unread u k));
+    };
+    values = record {
+      sheet-is = λ k. v .values .sheet-is k ∙ sym (same-left k (length (s .order)) (storing d′ (l .applied) k) (storing s (l .applied) k)
+          (simp upd-same) (rw idle) (λ u n. simp (upd-other, row-other)));
+      behind = λ u k. row-at (λ m. has-copy m ≡ true → s .copy u k .wct ≤ s .sheet k .wct) (s .mark) t (λ _. absent) u k (λ _ y. absurd (true≢false (sym y))) (λ _. v .values .behind u k);
+      current = λ u k. same? u t (λ e. rw e (simp row-same (λ y. absurd (true≢false (sym y))))) (λ n. simp row-other (v .values .current u k));
+      reads = λ u k y c z. same? u t
+          (λ e. absurd (true≢false (sym (simp (e, row-same) at y))))
+          (λ n. simp row-other (v .values .reads u k (simp row-other at y) c (simp upd-other at z)) ∙ sym (ap (λ c. some (c .content)) (same-left k (s .place u) (stores d′ k) (stores s k)
+          (simp upd-same) (rw idle) (λ u n. simp (upd-other, row-other)))));
+    };
+  }
