@@ -34,7 +34,8 @@ first-answers h cs = first-reads (λ t k. none) (events h cs)
 abbrev pub Reads : Header → List Command → Type 0
 Reads h cs = (t k v : ℕ) → told h cs .committed t ≡ true → first-answers h cs t k ≡ some v → v ≡ serial-shows (fed h cs) t k
 
--- Every committed save is carried out at all its nodes: its APPLY was accepted at each node that owns a sheet of its claim.
+-- Every committed save is carried out (document 01's term) at all its nodes: its APPLY was accepted at each node that owns a sheet
+-- of its claim.
 abbrev pub CarriedOut : Header → List Command → Type 0
 CarriedOut h cs = (t k : ℕ) → told h cs .committed t ≡ true → claims (after h cs .claim t k) ≡ true → told h cs .applied (h .owner k) t ≡ true
 

@@ -4,7 +4,7 @@ use mathlib.Core.Bool.{Bool, true, false, _||_}
 use mathlib.Core.List.{List, []}
 use Rattle.rules.specs.Bytes.{Header}
 
--- A sheet's content and its write counter, WCT (document 01's term). A save's own copy of a sheet is a content with the WCT seen.
+-- A sheet (document 01's term for an object): its content and its write counter, WCT. A save's own copy of it is a content with the WCT seen.
 pub record Sheet : Type 0 where
   pub content : ℕ
   pub wct : ℕ
@@ -16,7 +16,8 @@ new-sheet = record { content = 0; wct = 0 }
 abbrev pub store : Sheet → ℕ → Sheet
 store s v = record { content = v; wct = suc (s .wct) }
 
--- The phases of a save (document 01's term for a transaction).
+-- The phases of a save (document 01's term for a transaction): unused; in its first run (document 01's term), submitted, in its
+-- second run; committed; dropped (document 01's term), which is by GIVE UP.
 pub data Phase : Type 0 where
   unused first submitted second committed dropped : Phase
 
@@ -24,7 +25,7 @@ pub data Phase : Type 0 where
 pub data Mark : Type 0 where
   absent copied written : Mark
 
--- What a save claims of a sheet (document 01's term for the locks it asks for): nothing, S or X.
+-- The claim (document 01's term for the locks that a save asks for), sheet by sheet: nothing, S (shared) or X (exclusive).
 pub data Claim : Type 0 where
   unclaimed shared exclusive : Claim
 
@@ -43,10 +44,10 @@ pub record State : Type 0 where
   pub mark : ℕ → ℕ → Mark  -- save, sheet
   pub copy : ℕ → ℕ → Sheet  -- save, sheet: the copy, where the mark says that there is one
   pub claim : ℕ → ℕ → Claim  -- save, sheet
-  pub failed : ℕ → Bool  -- the save's failed mark
+  pub failed : ℕ → Bool  -- the save is marked failed
   pub runs : ℕ → ℕ  -- runs entered
-  pub order : List ℕ  -- the saves by first-run SUBMIT
-  pub place : ℕ → ℕ  -- of a save in the order
+  pub order : List ℕ  -- the order (document 01's term): the saves by first-run SUBMIT
+  pub place : ℕ → ℕ  -- a save's place in the order, counted from 0
   pub taken : ℕ → ℕ  -- how many places of the order a node has taken
   pub tally : Tally
 

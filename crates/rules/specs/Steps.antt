@@ -44,7 +44,8 @@ x-on claim k u = is-x (claim u k)
 
 -- ---- Granting
 
--- An S entry is granted when no X stands before it, an X entry when it stands first.
+-- An S entry is granted when no X stands before it, an X entry when it stands first. The source leaves "conflict" with a waiting
+-- request open; this is the reading taken.
 abbrev pub granted-as : Claim → (x : ℕ → Bool) (ahead : List ℕ) → Bool
 granted-as unclaimed x ahead = true
 granted-as shared x ahead = not (holds x ahead)
