@@ -1,4 +1,11 @@
-// A session's commands: the type, and the reader that finds them in bytes.
+// A session's bytes: the command type, the reader that finds commands, and the header.
+ghost use mathlib.Core.Path.{_≡_};
+ghost use Prim.Native.Nat.{_<_, _≤_};
+ghost use lib.ListN.{length};
+ghost use lib.Dec.{ltb};
+ghost use Rattle.rules.specs.Table.{all};
+ghost use Rattle.rules.specs.Bytes as rules;
+ghost use Rattle.wire.specs.Meaning.{command-of, front-of, front-in, operand-bytes, contents, write-of, opened, owners-of};
 
 // A command with its operands, as they stand in the bytes.
 pub enum Command {
@@ -10,4 +17,163 @@ pub enum Command {
     Decide(u8),
     Apply(u8, u8),
     GiveUp(u8),
+}
+
+// What stands at the front of the rest of a session: a command with the number of its operand bytes, a byte that is no
+// command, operands cut short, or nothing.
+pub enum Next {
+    Step(Command, usize),
+    Unknown,
+    Cut,
+    End,
+}
+
+// Whether a session opens, with its node count and its sheet count.
+pub enum Opened {
+    Header(u8, u8),
+    Bad,
+}
+
+// How many operand bytes a command byte asks for, 0 where it is no command.
+fn operands(b: u8) -> usize
+    ensures { λ r. ⌜ r ≡ operand-bytes b ⌝ }
+{
+    match b {
+        1 => 1,
+        2 => 2,
+        3 => 6,
+        4 => 1,
+        5 => 1,
+        6 => 1,
+        7 => 2,
+        8 => 1,
+        _ => 0,
+    }
+}
+
+// Four bytes, most significant first.
+fn content(a: u8, b: u8, c: u8, d: u8) -> u32
+    ensures { λ r. ⌜ r ≡ contents a b c d ⌝ }
+{
+    ((a as u32 * 256 + b as u32) * 256 + c as u32) * 256 + d as u32
+}
+
+// WRITE, from its operands.
+fn write(s: &[u8]) -> Command
+    requires { ⌜ 6 ≤ length (now s) ⌝ }
+    ensures { λ r. ⌜ r ≡ write-of (now (s .entry)) ⌝ }
+{
+    Command::Write(s[0], s[1], content(s[2], s[3], s[4], s[5]))
+}
+
+// The command of a command byte with its operands behind it.
+fn decoded(b: u8, s: &[u8]) -> Command
+    requires { ⌜ (0 < operand-bytes b) × (operand-bytes b ≤ length (now s)) ⌝ }
+    ensures { λ r. ⌜ rules.whole (command-of r) (operand-bytes b) ≡ rules.front b (now (s .entry)) ⌝ }
+{
+    match b {
+        1 => Command::Begin(s[0]),
+        2 => Command::Read(s[0], s[1]),
+        3 => write(s),
+        4 => Command::Submit(s[0]),
+        5 => Command::Take(s[0]),
+        6 => Command::Decide(s[0]),
+        7 => Command::Apply(s[0], s[1]),
+        _ => Command::GiveUp(s[0]),
+    }
+}
+
+// What stands at the front of the rest of a session, which starts at a command byte.
+pub fn read_next(rest: &[u8]) -> Next
+    ensures { λ r. ⌜ front-of r ≡ front-in (now (rest .entry)) ⌝ }
+{
+    if rest.len() == 0 {
+        return Next::End;
+    }
+    let b = rest[0];
+    let w = operands(b);
+    if w == 0 {
+        return Next::Unknown;
+    }
+    if rest.len() <= w {
+        return Next::Cut;
+    }
+    Next::Step(decoded(b, &rest[1..]), w)
+}
+
+// A byte of the session, 0 beyond its end.
+fn byte_at(session: &[u8], i: usize) -> u8
+    ensures { λ r. ⌜ r ≡ rules.byte (now (session .entry)) i ⌝ }
+{
+    if i < session.len() {
+        return session[i];
+    }
+    0
+}
+
+// The owner of sheet k, 0 beyond the sheet count.
+fn owner_of(session: &[u8], k: usize) -> u8
+    ensures { λ r. ⌜ r ≡ rules.header (now (session .entry)) .owner k ⌝ }
+{
+    if k < byte_at(session, 1) as usize {
+        return byte_at(session, 2 + k);
+    }
+    0
+}
+
+// Whether the owners of the sheets below m are below n.
+fn owners_below(session: &[u8], m: usize, n: u8) -> bool
+    ensures { λ r. ⌜ r ≡ all m (λ k. ltb (rules.header (now (session .entry)) .owner k) n) ⌝ }
+{
+    let mut k: usize = 0;
+    while k < m {
+        if n <= owner_of(session, k) {
+            return false;
+        }
+        k += 1;
+    }
+    true
+}
+
+// Refusal 1 is earned where the answer is Bad.
+pub fn read_header(session: &[u8]) -> Opened
+    ensures { λ r. ⌜ r ≡ opened (now (session .entry)) ⌝ }
+{
+    let n = byte_at(session, 0);
+    let m = byte_at(session, 1);
+    if 16384 < session.len() {
+        return Opened::Bad;
+    }
+    if session.len() < 2 + m as usize {
+        return Opened::Bad;
+    }
+    if n < 1 {
+        return Opened::Bad;
+    }
+    if 8 < n {
+        return Opened::Bad;
+    }
+    if m < 1 {
+        return Opened::Bad;
+    }
+    if 64 < m {
+        return Opened::Bad;
+    }
+    if owners_below(session, m as usize, n) {
+        return Opened::Header(n, m);
+    }
+    Opened::Bad
+}
+
+// The owners of 64 sheets, 0 beyond the sheet count.
+pub fn owners(session: &[u8]) -> [u8; 64]
+    ensures { λ r. ⌜ r ≡ owners-of (now (session .entry)) ⌝ }
+{
+    let mut owner = [0u8; 64];
+    let mut k: usize = 0;
+    while k < 64 {
+        owner[k] = owner_of(session, k);
+        k += 1;
+    }
+    owner
 }

@@ -1,0 +1,149 @@
+-- The header in the terms of the code: the owners, and what a session that opens has.
+use mathlib.Core.Path.{_≡_, refl, sym, ap, _∙_}
+use mathlib.Core.Bool.{Bool, true, false, _&&_, and-false}
+use mathlib.Core.List.{List, [], _∷_, _++_}
+use Prim.Native.Nat.{ℕ, zero, suc, _+_, _-_, _≤_, _<_}
+use native.Mathlib.Numerals.{add-one}
+use native.Mathlib.Omega.{arith}
+use borrow.Author.Tests.{le-leb, leb-true, ltb-true, ltb-false, eqb-true, eqb-false}
+use lib.Dec.{leb, ltb, eqb}
+use lib.ListN.{length, getD, take, drop, set, length-take, length-append, List·getD-eq-default, List·getD-append}
+use lib.Seq.{getD-take, getD-drop, take-suc-set, take-all, getD-append-seam}
+use Rattle.rules.specs.Table.{all}
+use Rattle.rules.specs.Sizes.{max-nodes, max-sheets, max-session}
+use Rattle.rules.specs.Bytes.{byte, header, header-size, opens}
+use Rattle.wire.specs.declared.Opened.{Opened}
+use Rattle.wire.specs.declared.Opened.the-variants.{Header, Bad}
+use Rattle.wire.specs.Meaning.{opened, table, owners-of}
+
+-- a test's two ways
+bool : {P : Type 0} (b : Bool) → (b ≡ true → P) → (b ≡ false → P) → P
+bool true f g = f refl
+bool false f g = g refl
+
+and-left : (a b : Bool) → a && b ≡ true → a ≡ true
+and-left true b e = refl
+and-left false b e = e
+
+and-right : (a b : Bool) → a && b ≡ true → b ≡ true
+and-right true b e = e
+and-right false b e = absurd (let z : _≡_ {A = ℕ} 0 1 = cc in omega arith)
+
+-- ---- Tests over the numbers below a bound
+
+module _ (f : ℕ → Bool) where
+  pub all-fails : (n k : ℕ) → k < n → f k ≡ false → false ≡ all n f
+  unfolding all
+  all-fails zero k h e = absurd (omega arith)
+  all-fails (suc n) k h e =
+      bool (eqb k n)
+      (λ t. rw (← eqb-true k n t, e))
+      (λ t.
+      let d = eqb-false k n t in
+      rw (← all-fails n k (omega arith) e) (sym (and-false (f n))))
+
+  pub all-more : (k : ℕ) → f k ≡ true → true ≡ all k f → true ≡ all (k + 1) f
+  unfolding all
+  all-more k e h = rw (add-one, e, ← h)
+
+  pub all-at : (n k : ℕ) → all n f ≡ true → k < n → f k ≡ true
+  all-at n k e h =
+      bool (f k) (λ t. t) (λ t.
+      let a = all-fails n k h t in
+      let z : _≡_ {A = ℕ} 0 1 = cc in
+      absurd (omega arith))
+
+-- ---- What a session that opens has
+
+pub record Opens (b : List ℕ) : Type 0 where
+  pub size : length b ≤ max-session
+  pub fits : header-size b ≤ length b
+  pub some-node : 1 ≤ byte b 0
+  pub nodes : byte b 0 ≤ max-nodes
+  pub some-sheet : 1 ≤ byte b 1
+  pub sheets : byte b 1 ≤ max-sheets
+
+abbrev owned : List ℕ → ℕ → Bool
+owned b k = ltb (header b .owner k) (byte b 0)
+
+pub opens-has : (b : List ℕ) → opens b ≡ true → Opens b × (all (byte b 1) (owned b) ≡ true)
+opens-has b e =
+    let n0 = leb 1 (byte b 0) in
+    let n1 = leb (byte b 0) max-nodes in
+    let m0 = leb 1 (byte b 1) in
+    let m1 = leb (byte b 1) max-sheets in
+    let o = all (byte b 1) (owned b) in
+    let s = leb (length b) max-session in
+    let f = leb (header-size b) (length b) in
+    let sf = and-left (s && f) _ e in
+    let r : ((n0 && n1) && (m0 && m1)) && o ≡ true = and-right (s && f) _ e in
+    let nm = and-left ((n0 && n1) && (m0 && m1)) o r in
+    let n = and-left (n0 && n1) (m0 && m1) nm in
+    let m = and-right (n0 && n1) (m0 && m1) nm in (
+      record {
+        size = leb-true _ _ (and-left s f sf);
+        fits = leb-true _ _ (and-right s f sf);
+        some-node = leb-true _ _ (and-left n0 n1 n);
+        nodes = leb-true _ _ (and-right n0 n1 n);
+        some-sheet = leb-true _ _ (and-left m0 m1 m);
+        sheets = leb-true _ _ (and-right m0 m1 m);
+      },
+      and-right ((n0 && n1) && (m0 && m1)) o r,
+    )
+
+-- the owners decide where the rest is in order
+opens-by : (b : List ℕ) → Opens b → opens b ≡ all (byte b 1) (owned b)
+opens-by b h =
+    rw (le-leb _ _ (h .size), le-leb _ _ (h .fits), le-leb _ _ (h .some-node), le-leb _ _ (h .nodes), le-leb _ _ (h .some-sheet), le-leb _ _ (h .sheets))
+
+module _ (b : List ℕ) where
+  pub refused : (Opens b → ⊥) → Bad ≡ opened b
+  unfolding opened
+  refused n = bool (opens b) (λ e. absurd (n (opens-has b e .0))) (λ e. rw e)
+
+  pub refused-owners : Opens b → false ≡ all (byte b 1) (owned b) → Bad ≡ opened b
+  unfolding opened
+  refused-owners h e = rw (opens-by b h, ← e)
+
+  pub admitted : Opens b → true ≡ all (byte b 1) (owned b) → Header (byte b 0) (byte b 1) ≡ opened b
+  unfolding opened
+  admitted h e = rw (opens-by b h, ← e)
+
+-- ---- The owners
+
+module _ (b : List ℕ) (k : ℕ) where
+  pub owner-in : k < byte b 1 → byte b (2 + k) ≡ header b .owner k
+  owner-in h = rw (getD-take, getD-drop)
+
+  pub owner-beyond : byte b 1 ≤ k → 0 ≡ header b .owner k
+  owner-beyond h = sym (List·getD-eq-default (take (byte b 1) (drop 2 b)) 0 (rw length-take (omega arith)))
+
+pub table-more : (f : ℕ → ℕ) (l : List ℕ) (k v : ℕ) → k < length l → v ≡ f k → take k l ≡ table f k → take (k + 1) (set l k v) ≡ table f (k + 1)
+unfolding table
+table-more f l k v h e t = rw (add-one, take-suc-set l k v h, t, e)
+
+length-table : (f : ℕ → ℕ) (n : ℕ) → length (table f n) ≡ n
+unfolding table
+length-table f zero = refl
+length-table f (suc n) = rw length-append (omega (arith, length-table f n))
+
+table-at : (f : ℕ → ℕ) (n k : ℕ) → k < n → getD (table f n) k 0 ≡ f k
+unfolding table
+table-at f zero k h = absurd (omega arith)
+table-at f (suc n) k h =
+    let l = length-table f n in
+    bool (eqb k n)
+    (λ t. rw (eqb-true k n t) (ap (λ (i : ℕ). getD (table f n ++ f n ∷ []) i 0) (sym l) ∙ getD-append-seam (table f n) (f n) [] 0))
+    (λ t.
+    let d = eqb-false k n t in
+    List·getD-append (table f n) (f n ∷ []) 0 k (omega arith) ∙ table-at f n k (omega arith))
+
+-- of a session that opens these are all owners
+pub owners-at : (b : List ℕ) → opens b ≡ true → (k : ℕ) → getD (owners-of b) k 0 ≡ header b .owner k
+owners-at b e k =
+    let h = opens-has b e .0 in
+    bool (ltb k 64)
+    (λ t. table-at (header b .owner) 64 k (ltb-true k 64 t))
+    (λ t.
+    let l = ltb-false k 64 t in
+    List·getD-eq-default (owners-of b) 0 (omega (arith, length-table (header b .owner) 64)) ∙ owner-beyond b k (omega arith))

@@ -1,0 +1,89 @@
+-- How a session's reading goes on, by what stands at the front of the rest: the laws of a loop over the bytes.
+use mathlib.Core.Path.{_≡_, refl, sym, ap, _∙_}
+use mathlib.Core.List.{List, [], _∷_}
+use mathlib.Core.Option.{Option, none, some}
+use Prim.Native.Nat.{ℕ, zero, suc, _+_, _-_, _≤_, _<_}
+use native.Mathlib.Nat.{add-zero, add-suc, suc-add}
+use native.Mathlib.Numerals.{add-one}
+use native.Mathlib.Omega.{arith}
+use borrow.Author.Tests.{ltb-false}
+use lib.Dec.{ltb}
+use lib.ListN.{length, drop, length-drop}
+use lib.Seq.{drop-drop}
+use Rattle.rules.specs.Bytes.{Command, Form, Front, unknown, cut, whole, widths, values, front-by, front, form-of, commands, Step, Stop, ended, stopped, Reading, more, read-front, read-from}
+use Rattle.wire.specs.Meaning.{front-in}
+use Rattle.wire.proofs.Front.{by-test}
+
+-- operand bytes are passed over
+pub skip : (n p : ℕ) (bs : List ℕ) → read-from n p bs ≡ read-from 0 (p + n) (drop n bs)
+unfolding read-from
+skip zero p bs = rw add-zero
+skip (suc n) p [] = refl
+skip (suc n) p (b ∷ bs) = rw (add-suc, ← suc-add p n) (skip n (suc p) bs)
+
+-- a whole command has its operands
+abbrev Within : ℕ → Front → Type 0
+Within n unknown = Unit {0}
+Within n cut = Unit {0}
+Within n (whole c w) = w ≤ n
+
+within-by : (o : Option Form) (bs : List ℕ) → Within (length bs) (front-by o bs)
+within-by none bs = tt
+within-by (some f) bs =
+    by-test (Within (length bs)) (ltb (length bs) (widths (f .operands))) cut _ (λ e. tt) (λ e. ltb-false _ _ e)
+
+-- ---- A list at offset p
+
+module _ (p : ℕ) where
+  list-end : (l : List ℕ) → front-in l ≡ none → read-from 0 p l ≡ record { steps = []; stop = ended }
+  unfolding read-from
+  list-end [] e = refl
+  list-end (b ∷ bs) e = absurd (let z : _≡_ {A = ℕ} 0 1 = cc in omega arith)
+
+  list-unknown : (l : List ℕ) → front-in l ≡ some unknown → read-from 0 p l ≡ record { steps = []; stop = stopped p 2 1 }
+  unfolding read-from
+  list-unknown [] e = absurd (let z : _≡_ {A = ℕ} 0 1 = cc in omega arith)
+  list-unknown (b ∷ bs) e = let f : front b bs ≡ unknown = cc in rw f
+
+  list-cut : (l : List ℕ) → front-in l ≡ some cut → read-from 0 p l ≡ record { steps = []; stop = stopped p 3 (length l) }
+  unfolding read-from
+  list-cut [] e = absurd (let z : _≡_ {A = ℕ} 0 1 = cc in omega arith)
+  list-cut (b ∷ bs) e = let f : front b bs ≡ cut = cc in rw f
+
+  module _ (c : Command) (w : ℕ) where
+    list-step : (l : List ℕ) → front-in l ≡ some (whole c w) → read-from 0 p l ≡ more (record { offset = p; size = suc w; command = c }) (read-from 0 (p + 1 + w) (drop (suc w) l))
+    unfolding read-from
+    list-step [] e = absurd (let z : _≡_ {A = ℕ} 0 1 = cc in omega arith)
+    list-step (b ∷ bs) e =
+        let f : front b bs ≡ whole c w = cc in
+        rw (f, add-one p) (ap (more (record { offset = p; size = suc w; command = c })) (skip w (suc p) bs))
+
+    list-fits : (l : List ℕ) → front-in l ≡ some (whole c w) → 1 + w ≤ length l
+    list-fits [] e = absurd (let z : _≡_ {A = ℕ} 0 1 = cc in omega arith)
+    list-fits (b ∷ bs) e =
+        let f : front b bs ≡ whole c w = cc in
+        let h : w ≤ length bs = rw f at (within-by (form-of b commands) bs) in
+        omega arith
+
+-- ---- Session b at offset p
+
+module _ (b : List ℕ) (p : ℕ) where
+  pub at-end : front-in (drop p b) ≡ none → read-from 0 p (drop p b) ≡ record { steps = []; stop = ended }
+  at-end e = list-end p (drop p b) e
+
+  pub at-unknown : front-in (drop p b) ≡ some unknown → read-from 0 p (drop p b) ≡ record { steps = []; stop = stopped p 2 1 }
+  at-unknown e = list-unknown p (drop p b) e
+
+  pub at-cut : front-in (drop p b) ≡ some cut → read-from 0 p (drop p b) ≡ record { steps = []; stop = stopped p 3 (length b - p) }
+  at-cut e = rw (← length-drop p b) (list-cut p (drop p b) e)
+
+  module _ (c : Command) (w : ℕ) (e : front-in (drop p b) ≡ some (whole c w)) where
+    pub at-step : read-from 0 p (drop p b) ≡ more (record { offset = p; size = suc w; command = c }) (read-from 0 (p + 1 + w) (drop (p + 1 + w) b))
+    at-step =
+        let j : p + suc w ≡ p + 1 + w = omega arith in
+        rw (← j, ← drop-drop (suc w) p b, j) (list-step p c w (drop p b) e)
+
+    pub step-fits : p + 1 + w ≤ length b
+    step-fits =
+        let h = list-fits p c w (drop p b) e in
+        omega (arith, length-drop p b)

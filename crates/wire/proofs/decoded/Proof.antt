@@ -1,0 +1,99 @@
+use mathlib.Core.Path.{_≡_, ap}
+use native.Mathlib.Omega.{arith}
+use borrow.Author.Needs.{needs}
+use Rattle.wire.specs.Meaning.{operand-bytes}
+use Rattle.wire.proofs.Front.{eighth, front-whole, first-byte, second-byte, last-bytes}
+use Rattle.wire.proofs.decoded.Statement.{statement}
+use Rattle.wire.proofs.decoded.Tie as tie
+
+shared-slice-read-t5 : tie.Need-shared-slice-read-t5
+shared-slice-read-t5 c = search needs
+
+shared-slice-read-t7 : tie.Need-shared-slice-read-t7
+shared-slice-read-t7 c = search needs
+
+shared-slice-read-t9 : tie.Need-shared-slice-read-t9
+unfolding operand-bytes
+shared-slice-read-t9 c =
+    let w : operand-bytes (c .before .before .before .before .args .b) ≡ 2 = ap operand-bytes (c .before .before .match .keys2) in
+    omega arith
+
+write-requires : tie.Need-write-requires
+unfolding operand-bytes
+write-requires c κs =
+    let w : operand-bytes (c .before .before .args .b) ≡ 6 = ap operand-bytes (c .match .keys3) in
+    omega arith
+
+shared-slice-read-t11 : tie.Need-shared-slice-read-t11
+shared-slice-read-t11 c = search needs
+
+shared-slice-read-t13 : tie.Need-shared-slice-read-t13
+shared-slice-read-t13 c = search needs
+
+shared-slice-read-t15 : tie.Need-shared-slice-read-t15
+shared-slice-read-t15 c = search needs
+
+shared-slice-read-t17 : tie.Need-shared-slice-read-t17
+shared-slice-read-t17 c = search needs
+
+shared-slice-read-t19 : tie.Need-shared-slice-read-t19
+unfolding operand-bytes
+shared-slice-read-t19 c =
+    let w : operand-bytes (c .before .before .before .before .args .b) ≡ 2 = ap operand-bytes (c .before .before .match .keys7) in
+    omega arith
+
+shared-slice-read-t21 : tie.Need-shared-slice-read-t21
+shared-slice-read-t21 c = search needs
+
+returns : tie.Need-returns
+returns c = rw (front-whole _ _ 1 (c .before .match .keys1) (c .before .before .before .pre .0) (c .before .before .before .pre .1), first-byte)
+
+returns-2 : tie.Need-returns-2
+returns-2 c = rw (front-whole _ _ 2 (c .before .before .match .keys2) (c .before .before .before .before .pre .0) (c .before .before .before .before .pre .1), first-byte, second-byte)
+
+returns-3 : tie.Need-returns-3
+unfolding operand-bytes
+returns-3 c =
+    let p = c .before .before .before .pre in
+    let w : operand-bytes (c .before .before .before .args .b) ≡ 6 = ap operand-bytes (c .before .match .keys3) in
+    rw (front-whole _ _ 3 (c .before .match .keys3) (p .0) (p .1), c .write .ensures, first-byte, second-byte, last-bytes (c .before .before .before .args .s .now) (omega arith))
+
+returns-4 : tie.Need-returns-4
+returns-4 c = rw (front-whole _ _ 4 (c .before .match .keys4) (c .before .before .before .pre .0) (c .before .before .before .pre .1), first-byte)
+
+returns-5 : tie.Need-returns-5
+returns-5 c = rw (front-whole _ _ 5 (c .before .match .keys5) (c .before .before .before .pre .0) (c .before .before .before .pre .1), first-byte)
+
+returns-6 : tie.Need-returns-6
+returns-6 c = rw (front-whole _ _ 6 (c .before .match .keys6) (c .before .before .before .pre .0) (c .before .before .before .pre .1), first-byte)
+
+returns-7 : tie.Need-returns-7
+returns-7 c = rw (front-whole _ _ 7 (c .before .before .match .keys7) (c .before .before .before .before .pre .0) (c .before .before .before .before .pre .1), first-byte, second-byte)
+
+returns-8 : tie.Need-returns-8
+returns-8 c =
+    let p = c .before .before .before .pre in
+    rw (front-whole _ _ 8 (eighth _ (p .0) (c .before .match .rest)) (p .0) (p .1), first-byte)
+
+pub decoded-spec : {M : Type 1} → statement M
+decoded-spec =
+    tie.close
+    (tie.spec
+    shared-slice-read-t5
+    shared-slice-read-t7
+    shared-slice-read-t9
+    write-requires
+    shared-slice-read-t11
+    shared-slice-read-t13
+    shared-slice-read-t15
+    shared-slice-read-t17
+    shared-slice-read-t19
+    shared-slice-read-t21
+    returns
+    returns-2
+    returns-3
+    returns-4
+    returns-5
+    returns-6
+    returns-7
+    returns-8)

@@ -1,0 +1,40 @@
+use borrow.Author.Needs.{needs}
+use Rattle.wire.proofs.write.Statement.{statement}
+use Rattle.wire.proofs.write.Tie as tie
+
+shared-slice-read-t3 : tie.Need-shared-slice-read-t3
+shared-slice-read-t3 c = search needs
+
+shared-slice-read-t5 : tie.Need-shared-slice-read-t5
+shared-slice-read-t5 c = search needs
+
+shared-slice-read-content : tie.Need-shared-slice-read-content
+shared-slice-read-content c = search needs
+
+shared-slice-read-content-2 : tie.Need-shared-slice-read-content-2
+shared-slice-read-content-2 c = search needs
+
+shared-slice-read-content-3 : tie.Need-shared-slice-read-content-3
+shared-slice-read-content-3 c = search needs
+
+shared-slice-read-content-4 : tie.Need-shared-slice-read-content-4
+shared-slice-read-content-4 c = search needs
+
+content-requires : tie.Need-content-requires
+content-requires c κs = search needs
+
+returns : tie.Need-returns
+returns c = rw (c .content .ensures)
+
+pub write-spec : {M : Type 1} → statement M
+write-spec =
+    tie.close
+    (tie.spec
+    shared-slice-read-t3
+    shared-slice-read-t5
+    shared-slice-read-content
+    shared-slice-read-content-2
+    shared-slice-read-content-3
+    shared-slice-read-content-4
+    content-requires
+    returns)
