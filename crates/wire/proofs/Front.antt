@@ -11,16 +11,12 @@ use lib.Dec.{eqb}
 use lib.ListN.{length, getD, take, drop, length-drop}
 use lib.Seq.{take-all, getD-drop}
 use Rattle.rules.specs.Bytes.{Form, Front, unknown, cut, whole, Command, Begin, form-of, commands, widths, values, big-endian, front-by, front}
+use Rattle.rules.proofs.Table.{cond-at}
 use Rattle.wire.specs.Meaning.{front-in, width-of, operand-bytes, contents}
 
 -- what `&s[a..]` lends
 pub rest : (s : List ℕ) (a : ℕ) → take (length s - a) (drop a s) ≡ drop a s
 rest s a = take-all (length s - a) (drop a s) (rw length-drop (omega arith))
-
--- a test's two ways
-pub by-test : {A : Type 0} (P : A → Type 0) (b : Bool) (x y : A) → (b ≡ true → P x) → (b ≡ false → P y) → P (cond b x y)
-by-test P true x y f g = f refl
-by-test P false x y f g = g refl
 
 pub front-some : (s : List ℕ) → (length s ≡ 0 → ⊥) → front-in s ≡ some (front (getD s 0 0) (drop 1 s))
 front-some [] n = absurd (n refl)
@@ -59,7 +55,7 @@ Found b (some f) = (0 < widths (f .operands)) × (1 ≤ b) × (b ≤ 8)
 found-in : (b : ℕ) (fs : List Form) → Lines fs → Found b (form-of b fs)
 found-in b [] l = tt
 found-in b (f ∷ fs) l =
-    by-test (Found b) (eqb (f .number) b) (some f) (form-of b fs)
+    cond-at (Found b) (eqb (f .number) b) (some f) (form-of b fs)
     (λ e. let k = eqb-true (f .number) b e in (l .0, omega arith, omega arith)) (λ e. found-in b fs (l .3))
 
 found : (b : ℕ) → Found b (form-of b commands)

@@ -10,24 +10,12 @@ use lib.Dec.{leb, ltb, eqb}
 use lib.ListN.{length, getD, take, drop, set, length-take, length-append, List·getD-eq-default, List·getD-append}
 use lib.Seq.{getD-take, getD-drop, take-suc-set, take-all, getD-append-seam}
 use Rattle.rules.specs.Table.{all}
+use Rattle.rules.proofs.Table.{bool, and-l, and-r}
 use Rattle.rules.specs.Sizes.{max-nodes, max-sheets, max-session}
 use Rattle.rules.specs.Bytes.{byte, header, header-size, opens}
 use Rattle.wire.specs.declared.Opened.{Opened}
 use Rattle.wire.specs.declared.Opened.the-variants.{Header, Bad}
 use Rattle.wire.specs.Meaning.{opened, table, owners-of}
-
--- a test's two ways
-bool : {P : Type 0} (b : Bool) → (b ≡ true → P) → (b ≡ false → P) → P
-bool true f g = f refl
-bool false f g = g refl
-
-and-left : (a b : Bool) → a && b ≡ true → a ≡ true
-and-left true b e = refl
-and-left false b e = e
-
-and-right : (a b : Bool) → a && b ≡ true → b ≡ true
-and-right true b e = e
-and-right false b e = absurd (let z : _≡_ {A = ℕ} 0 1 = cc in omega arith)
 
 -- ---- Tests over the numbers below a bound
 
@@ -45,13 +33,6 @@ module _ (f : ℕ → Bool) where
   pub all-more : (k : ℕ) → f k ≡ true → true ≡ all k f → true ≡ all (k + 1) f
   unfolding all
   all-more k e h = rw (add-one, e, ← h)
-
-  pub all-at : (n k : ℕ) → all n f ≡ true → k < n → f k ≡ true
-  all-at n k e h =
-      bool (f k) (λ t. t) (λ t.
-      let a = all-fails n k h t in
-      let z : _≡_ {A = ℕ} 0 1 = cc in
-      absurd (omega arith))
 
 -- ---- What a session that opens has
 
@@ -75,20 +56,20 @@ opens-has b e =
     let o = all (byte b 1) (owned b) in
     let s = leb (length b) max-session in
     let f = leb (header-size b) (length b) in
-    let sf = and-left (s && f) _ e in
-    let r : ((n0 && n1) && (m0 && m1)) && o ≡ true = and-right (s && f) _ e in
-    let nm = and-left ((n0 && n1) && (m0 && m1)) o r in
-    let n = and-left (n0 && n1) (m0 && m1) nm in
-    let m = and-right (n0 && n1) (m0 && m1) nm in (
+    let sf = and-l (s && f) _ e in
+    let r : ((n0 && n1) && (m0 && m1)) && o ≡ true = and-r (s && f) _ e in
+    let nm = and-l ((n0 && n1) && (m0 && m1)) o r in
+    let n = and-l (n0 && n1) (m0 && m1) nm in
+    let m = and-r (n0 && n1) (m0 && m1) nm in (
       record {
-        size = leb-true _ _ (and-left s f sf);
-        fits = leb-true _ _ (and-right s f sf);
-        some-node = leb-true _ _ (and-left n0 n1 n);
-        nodes = leb-true _ _ (and-right n0 n1 n);
-        some-sheet = leb-true _ _ (and-left m0 m1 m);
-        sheets = leb-true _ _ (and-right m0 m1 m);
+        size = leb-true _ _ (and-l s f sf);
+        fits = leb-true _ _ (and-r s f sf);
+        some-node = leb-true _ _ (and-l n0 n1 n);
+        nodes = leb-true _ _ (and-r n0 n1 n);
+        some-sheet = leb-true _ _ (and-l m0 m1 m);
+        sheets = leb-true _ _ (and-r m0 m1 m);
       },
-      and-right ((n0 && n1) && (m0 && m1)) o r,
+      and-r ((n0 && n1) && (m0 && m1)) o r,
     )
 
 -- the owners decide where the rest is in order

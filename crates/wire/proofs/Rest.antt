@@ -11,8 +11,8 @@ use lib.Dec.{ltb}
 use lib.ListN.{length, drop, length-drop}
 use lib.Seq.{drop-drop}
 use Rattle.rules.specs.Bytes.{Command, Form, Front, unknown, cut, whole, widths, values, front-by, front, form-of, commands, Step, Stop, ended, stopped, Reading, more, read-front, read-from}
+use Rattle.rules.proofs.Table.{cond-at}
 use Rattle.wire.specs.Meaning.{front-in}
-use Rattle.wire.proofs.Front.{by-test}
 
 -- operand bytes are passed over
 pub skip : (n p : ℕ) (bs : List ℕ) → read-from n p bs ≡ read-from 0 (p + n) (drop n bs)
@@ -30,7 +30,7 @@ Within n (whole c w) = w ≤ n
 within-by : (o : Option Form) (bs : List ℕ) → Within (length bs) (front-by o bs)
 within-by none bs = tt
 within-by (some f) bs =
-    by-test (Within (length bs)) (ltb (length bs) (widths (f .operands))) cut _ (λ e. tt) (λ e. ltb-false _ _ e)
+    cond-at (Within (length bs)) (ltb (length bs) (widths (f .operands))) cut _ (λ e. tt) (λ e. ltb-false _ _ e)
 
 -- ---- A list at offset p
 
