@@ -1,0 +1,137 @@
+// The tests that the commands make of queues. A queue is not stored: its entries are the saves at the places that its node has taken,
+// with their byte in `standing` set and a claim on the sheet. One walk over those places answers every test.
+ghost use Prim.Native.Nat.{ℕ, _+_, _*_, _<_, _≤_};
+ghost use mathlib.Core.Path.{_≡_};
+ghost use mathlib.Core.Bool.{_&&_, _||_, not};
+ghost use mathlib.Core.List.{[]};
+ghost use lib.ListN.{getD};
+ghost use lib.Dec.{eqb, ltb};
+ghost use Rattle.rules.specs.Table.{all, any};
+ghost use Rattle.rules.specs.State.{claims};
+ghost use Rattle.rules.specs.Steps.{holds, at-front, before, x-on, granted-as, granted, has-taken, finds-invalid, has-entry};
+ghost use Rattle.state.specs.Places.{at};
+ghost use Rattle.state.specs.View.{set?, flat, claim-in, queue-in, view, no-tally};
+ghost use Rattle.state.specs.Ready.{Small, Once, Ready};
+ghost use Rattle.queues.specs.Walk.{halt-of, halts, stop, least-of, Walk};
+use state::Control;
+
+// No save: a walk that is given it stops only by claims.
+const NO_SAVE: u8 = 32;
+
+// An entry (e) of save u with claim c stops the walk: u is t, or c is `least` or more.
+fn halt(e: u8, c: u8, u: u8, t: u8, least: u8) -> bool
+    ensures { λ r. ⌜ r ≡ halt-of e c u t least ⌝ }
+{
+    if e == 0 {
+        return false;
+    }
+    if c == 0 {
+        return false;
+    }
+    if u == t {
+        return true;
+    }
+    least <= c
+}
+
+// The first of the first `upto` places whose save has an entry at sheet k of node n, and is t or claims `least` or more; upto if there is none.
+fn first(
+    order: &[u8; 32],
+    standing: &[u8; 256],
+    claim: &[u8; 2048],
+    n: usize,
+    k: usize,
+    upto: usize,
+    t: u8,
+    least: u8,
+) -> usize
+    requires { ⌜ Walk (now order) n k upto ⌝ }
+    ensures { λ r. ⌜ r ≡ stop (at (now (order .entry))) (halts (now (standing .entry)) (now (claim .entry)) n k t least) 0 upto ⌝ }
+{
+    let mut q: usize = 0;
+    while q < upto {
+        let u = order[q];
+        let ui = u as usize;
+        let e = standing[n * 32 + ui];
+        let c = claim[ui * 64 + k];
+        let h = halt(e, c, u, t, least);
+        if h {
+            return q;
+        }
+        q += 1;
+    }
+    q
+}
+
+// The queue of sheet k holds an X.
+fn holds_x(
+    order: &[u8; 32],
+    standing: &[u8; 256],
+    claim: &[u8; 2048],
+    n: usize,
+    k: usize,
+    upto: usize,
+) -> bool
+    requires { ⌜ Walk (now order) n k upto ⌝ }
+    ensures { λ r. ⌜ ((place : ℕ → ℕ) → Once (now (order .entry)) place upto → r ≡ holds (x-on (claim-in (now (claim .entry))) k) (queue-in (now (order .entry)) place (now (standing .entry)) (now (claim .entry)) n k upto)) ⌝ }
+{
+    let q = first(order, standing, claim, n, k, upto, NO_SAVE, 2);
+    q < upto
+}
+
+// The front entry of sheet k's queue is an X.
+pub fn front_x(
+    order: &[u8; 32],
+    standing: &[u8; 256],
+    claim: &[u8; 2048],
+    n: usize,
+    k: usize,
+    upto: usize,
+) -> bool
+    requires { ⌜ Walk (now order) n k upto ⌝ }
+    ensures { λ r. ⌜ ((place : ℕ → ℕ) → Once (now (order .entry)) place upto → r ≡ at-front (x-on (claim-in (now (claim .entry))) k) (queue-in (now (order .entry)) place (now (standing .entry)) (now (claim .entry)) n k upto)) ⌝ }
+{
+    let q = first(order, standing, claim, n, k, upto, NO_SAVE, 0);
+    if upto <= q {
+        return false;
+    }
+    let u = order[q] as usize;
+    let c = claim[u * 64 + k];
+    2 <= c
+}
+
+// The least claim that stands in the way of claim c.
+fn least(c: u8) -> u8
+    ensures { λ r. ⌜ r ≡ least-of c ⌝ }
+{
+    if 2 <= c {
+        return 0;
+    }
+    2
+}
+
+// Save t's entry at sheet k is granted, or t claims nothing there.
+fn granted_at(
+    order: &[u8; 32],
+    standing: &[u8; 256],
+    claim: &[u8; 2048],
+    n: usize,
+    k: usize,
+    upto: usize,
+    t: u8,
+) -> bool
+    requires { ⌜ Walk (now order) n k upto × (t < 32) ⌝ }
+    ensures { λ r. ⌜ ((place : ℕ → ℕ) → Once (now (order .entry)) place upto → r ≡ granted-as (claim-in (now (claim .entry)) t k) (x-on (claim-in (now (claim .entry))) k) (before t (queue-in (now (order .entry)) place (now (standing .entry)) (now (claim .entry)) n k upto))) ⌝ }
+{
+    let c = claim[(t as usize) * 64 + k];
+    if c == 0 {
+        return true;
+    }
+    let l = least(c);
+    let q = first(order, standing, claim, n, k, upto, t, l);
+    if upto <= q {
+        return true;
+    }
+    let u = order[q];
+    u == t
+}

@@ -1,0 +1,5 @@
+pub mod Tables
+pub mod Codes
+pub mod Stores
+pub mod Places
+pub mod Steps

@@ -1,0 +1,4 @@
+pub mod Places
+pub mod View
+pub mod Ready
+pub mod Fill

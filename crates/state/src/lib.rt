@@ -1,0 +1,95 @@
+// A session's state as arrays. What is small goes by value, as `Control`; the tables are lent and changed in place.
+ghost use mathlib.Core.Path.{_≡_};
+ghost use Rattle.rules.specs.State.{fresh};
+ghost use Rattle.state.specs.View.{shown, header-of, no-tally};
+
+// Phases: 0 unused, 1 first run, 2 submitted, 3 second run, 4 committed, 5 dropped.
+pub struct Control {
+    pub nodes: u8,
+    pub sheets: u8,
+    // How many places the order has.
+    pub placed: u8,
+    pub owner: [u8; Session::SHEETS],
+    pub phase: [u8; Session::SAVES],
+    pub failed: [u8; Session::SAVES],
+    pub runs: [u8; Session::SAVES],
+    pub order: [u8; Session::SAVES],
+    pub place: [u8; Session::SAVES],
+    // How many places each node has taken.
+    pub taken: [u8; Session::NODES],
+}
+
+// Row t of `value`, `seen`, `mark` and `claim` is save t's, with a column for each sheet.
+// Marks: 0 no copy, 1 copied, 2 written. Claims: 0 none, 1 S, 2 X.
+// Row n of `standing` is node n's: 1 from the TAKE of a save to its APPLY.
+pub struct Session {
+    pub control: Control,
+    pub value: [u32; Session::COPIES],
+    pub seen: [u32; Session::COPIES],
+    pub mark: [u8; Session::COPIES],
+    pub claim: [u8; Session::COPIES],
+    pub standing: [u8; Session::STANDING],
+    pub content: [u32; Session::SHEETS],
+    pub wct: [u32; Session::SHEETS],
+}
+
+impl Session {
+    pub const NODES: usize = 8;
+
+    pub const SHEETS: usize = 64;
+
+    pub const SAVES: usize = 32;
+
+    pub const COPIES: usize = Session::SAVES * Session::SHEETS;
+
+    pub const STANDING: usize = Session::NODES * Session::SAVES;
+
+    pub fn fresh(nodes: u8, sheets: u8, owner: [u8; Session::SHEETS]) -> Session
+        ensures { λ r. ⌜ shown r no-tally ≡ fresh (header-of nodes sheets owner) ⌝ }
+    {
+        Session {
+            control: Control {
+                nodes: nodes,
+                sheets: sheets,
+                placed: 0,
+                owner: owner,
+                phase: [0; Session::SAVES],
+                failed: [0; Session::SAVES],
+                runs: [0; Session::SAVES],
+                order: [0; Session::SAVES],
+                place: [0; Session::SAVES],
+                taken: [0; Session::NODES],
+            },
+            value: [0; Session::COPIES],
+            seen: [0; Session::COPIES],
+            mark: [0; Session::COPIES],
+            claim: [0; Session::COPIES],
+            standing: [0; Session::STANDING],
+            content: [0; Session::SHEETS],
+            wct: [0; Session::SHEETS],
+        }
+    }
+}
+
+// What a node finds a save at its TAKE.
+pub enum Verdict {
+    Valid,
+    Invalid,
+}
+
+// `Recommits` is a second run's SUBMIT: accepted, and the tally counts it.
+pub enum Answer {
+    Accepted,
+    Content(u32),
+    Took(u8, Verdict),
+    Commits,
+    SecondRun,
+    Recommits,
+    Refused(u8),
+}
+
+// What a command that changes the control gives.
+pub struct Stepped {
+    pub answer: Answer,
+    pub control: Control,
+}
