@@ -1,0 +1,46 @@
+-- What the run's answers mean in the rules.
+use Prim.Native.Nat.{ℕ}
+use Rattle.rules.specs.Bytes as bytes
+use Rattle.rules.specs.Steps as steps
+use Rattle.rules.specs.Calls as calls
+use Rattle.state.specs.declared.Answer.{Answer}
+use Rattle.state.specs.declared.Answer.the-variants as answer
+use Rattle.state.specs.View.{verdict-of}
+use Rattle.session.specs.declared.Stop.{Stop}
+use Rattle.session.specs.declared.Stop.the-variants as stop
+use Rattle.session.specs.declared.Reply.{Reply}
+use Rattle.session.specs.declared.Reply.the-variants as reply
+
+abbrev pub stop-of : Stop → bytes.Stop
+stop-of stop.End = bytes.ended
+stop-of (stop.Refused p n shown) = bytes.stopped p n shown
+
+-- the paper's value or refusal of each reply
+abbrev pub reply-of : Reply → calls.Reply
+reply-of reply.NoCommand = calls.no-command
+reply-of reply.Accepted = calls.answers steps.accepted
+reply-of (reply.Content v) = calls.answers (steps.content-is v)
+reply-of (reply.Took t v) = calls.answers (steps.took t (verdict-of v))
+reply-of reply.Commits = calls.answers steps.commits
+reply-of reply.SecondRun = calls.answers steps.second-run
+reply-of (reply.Refused p n) = calls.refusal p n
+
+-- the number of a refusal, 0 for any other answer
+abbrev pub refusal-in : Answer → ℕ
+refusal-in answer.Accepted = 0
+refusal-in (answer.Content v) = 0
+refusal-in (answer.Took t v) = 0
+refusal-in answer.Commits = 0
+refusal-in answer.SecondRun = 0
+refusal-in answer.Recommits = 0
+refusal-in (answer.Refused n) = n
+
+-- an accepted command's answer as the call's
+abbrev pub reply-to : Answer → Reply
+reply-to answer.Accepted = reply.Accepted
+reply-to (answer.Content v) = reply.Content v
+reply-to (answer.Took t v) = reply.Took t v
+reply-to answer.Commits = reply.Commits
+reply-to answer.SecondRun = reply.SecondRun
+reply-to answer.Recommits = reply.Accepted
+reply-to (answer.Refused n) = reply.NoCommand
