@@ -1,0 +1,4 @@
+pub mod Writing
+pub mod Figures
+pub mod Lines
+pub mod Fits

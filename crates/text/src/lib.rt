@@ -1,0 +1,195 @@
+// The report's lines. A writer stores them in a lent buffer from `at` on, and answers the place behind them. Each asks for
+// room as for the longest numbers of its types: a u32 has at most 10 figures.
+ghost use mathlib.Core.Path.{_≡_};
+ghost use mathlib.Core.List.{[], _∷_, _++_};
+ghost use Prim.Native.Nat.{ℕ, _+_, _*_, _<_, _≤_};
+ghost use lib.ListN.{length, getD};
+ghost use Rattle.rules.specs.Report as rules;
+ghost use Rattle.text.specs.Wrote.{Wrote};
+ghost use Rattle.text.specs.Lines.{letter-of, row-of, rows-of, sheets-of, tally-of, opening, three, state-text};
+
+// One byte.
+fn put(buf: &mut [u8], at: usize, b: u8) -> usize
+    requires { ⌜ at < length (now buf) ⌝ }
+    ensures { λ r. ⌜ Wrote (now (buf .entry)) at (b ∷ []) 1 r (now (buf .exit)) ⌝ }
+{
+    buf[at] = b;
+    at + 1
+}
+
+// A number in decimal figures, without leading zeros.
+fn decimal(buf: &mut [u8], at: usize, n: u32) -> usize
+    requires { ⌜ at + length (rules.decimal n) ≤ length (now buf) ⌝ }
+    ensures { λ r. ⌜ Wrote (now (buf .entry)) at (rules.decimal n) 10 r (now (buf .exit)) ⌝ }
+{
+    let figure = 48 + ((n % 10) as u8);
+    if n < 10 {
+        return put(buf, at, figure);
+    }
+    let e = decimal(buf, at, n / 10);
+    put(buf, e, figure)
+}
+
+// A blank and a number.
+fn field(buf: &mut [u8], at: usize, n: u32) -> usize
+    requires { ⌜ at + 11 ≤ length (now buf) ⌝ }
+    ensures { λ r. ⌜ Wrote (now (buf .entry)) at (rules.field n) 11 r (now (buf .exit)) ⌝ }
+{
+    let e = put(buf, at, b' ');
+    decimal(buf, e, n)
+}
+
+// A letter and two fields: how lines begin.
+fn open_line(buf: &mut [u8], at: usize, letter: u8, a: u32, b: u32) -> usize
+    requires { ⌜ at + 23 ≤ length (now buf) ⌝ }
+    ensures { λ r. ⌜ Wrote (now (buf .entry)) at (opening letter a b) 23 r (now (buf .exit)) ⌝ }
+{
+    let e = put(buf, at, letter);
+    let f = field(buf, e, a);
+    field(buf, f, b)
+}
+
+// A line with three fields.
+fn three_line(buf: &mut [u8], at: usize, letter: u8, a: u32, b: u32, c: u32) -> usize
+    requires { ⌜ at + 35 ≤ length (now buf) ⌝ }
+    ensures { λ r. ⌜ Wrote (now (buf .entry)) at (three letter a b c) 35 r (now (buf .exit)) ⌝ }
+{
+    let e = open_line(buf, at, letter, a, b);
+    let f = field(buf, e, c);
+    put(buf, f, 10)
+}
+
+// P t r o
+fn place_line(buf: &mut [u8], at: usize, save: u8, runs: u8, outcome: u8) -> usize
+    requires { ⌜ at + 26 ≤ length (now buf) ⌝ }
+    ensures { λ r. ⌜
+        Wrote (now (buf .entry)) at (rules.place-line (record { save = save; runs = runs; outcome = outcome })) 26 r
+        (now (buf .exit))
+        ⌝ }
+{
+    let e = open_line(buf, at, b'P', save as u32, runs as u32);
+    let f = put(buf, e, b' ');
+    let g = put(buf, f, outcome);
+    put(buf, g, 10)
+}
+
+// R p c
+pub fn refusal_line(buf: &mut [u8], at: usize, p: u32, c: u8) -> usize
+    requires { ⌜ at + 24 ≤ length (now buf) ⌝ }
+    ensures { λ r. ⌜ Wrote (now (buf .entry)) at (rules.refusal-line p c) 24 r (now (buf .exit)) ⌝ }
+{
+    let e = open_line(buf, at, b'R', p, c as u32);
+    put(buf, e, 10)
+}
+
+// A phase's letter: C committed, D dropped, U neither yet.
+fn letter(phase: u8) -> u8
+    ensures { λ r. ⌜ r ≡ letter-of phase ⌝ }
+{
+    if phase == 4 {
+        return b'C';
+    }
+    if 4 < phase {
+        return b'D';
+    }
+    b'U'
+}
+
+// Save t's P line.
+fn row_line(buf: &mut [u8], at: usize, t: u8, runs: &[u8; 32], phase: &[u8; 32]) -> usize
+    requires { ⌜ (t < 32) × (at + 26 ≤ length (now buf)) ⌝ }
+    ensures { λ r. ⌜
+        Wrote (now (buf .entry)) at (rules.place-line (row-of (now (runs .entry)) (now (phase .entry)) t)) 26 r
+        (now (buf .exit))
+        ⌝ }
+{
+    let i = t as usize;
+    let outcome = letter(phase[i]);
+    place_line(buf, at, t, runs[i], outcome)
+}
+
+// The P lines of the first `count` places.
+pub fn place_lines(
+    buf: &mut [u8],
+    at: usize,
+    order: &[u8; 32],
+    runs: &[u8; 32],
+    phase: &[u8; 32],
+    count: usize,
+) -> usize
+    requires { ⌜ (count ≤ 32) × (at + 26 * count ≤ length (now buf)) ⌝ }
+    requires { ⌜ ((i : ℕ) → i < count → getD (now order) i 0 < 32) ⌝ }
+    ensures { λ r. ⌜
+        Wrote (now (buf .entry)) at
+        (rules.place-lines (rows-of (now (order .entry)) (now (runs .entry)) (now (phase .entry)) count)) (26 * count) r
+        (now (buf .exit))
+        ⌝ }
+{
+    let mut e = at;
+    let mut i: usize = 0;
+    while i < count {
+        e = row_line(buf, e, order[i], runs, phase);
+        i += 1;
+    }
+    e
+}
+
+// The O lines of the first `m` sheets.
+pub fn sheet_lines(
+    buf: &mut [u8],
+    at: usize,
+    content: &[u32; 64],
+    wct: &[u32; 64],
+    m: usize,
+) -> usize
+    requires { ⌜ (m ≤ 64) × (at + 35 * m ≤ length (now buf)) ⌝ }
+    ensures { λ r. ⌜
+        Wrote (now (buf .entry)) at (rules.sheet-lines (sheets-of (now (content .entry)) (now (wct .entry))) m) (35 * m) r
+        (now (buf .exit))
+        ⌝ }
+{
+    let mut e = at;
+    let mut k: usize = 0;
+    while k < m {
+        e = three_line(buf, e, b'O', k as u32, content[k], wct[k]);
+        k += 1;
+    }
+    e
+}
+
+// T a f s
+pub fn tally_line(buf: &mut [u8], at: usize, accepted: u32, first: u32, second: u32) -> usize
+    requires { ⌜ at + 35 ≤ length (now buf) ⌝ }
+    ensures { λ r. ⌜ Wrote (now (buf .entry)) at (rules.tally-line (tally-of accepted first second)) 35 r (now (buf .exit)) ⌝ }
+{
+    three_line(buf, at, b'T', accepted, first, second)
+}
+
+// All lines of a state: the P, O and T lines, of at most 26 * 32 + 35 * 64 + 35 bytes.
+pub fn state_lines(
+    buf: &mut [u8],
+    at: usize,
+    order: &[u8; 32],
+    runs: &[u8; 32],
+    phase: &[u8; 32],
+    placed: usize,
+    content: &[u32; 64],
+    wct: &[u32; 64],
+    m: usize,
+    accepted: u32,
+    first: u32,
+    second: u32,
+) -> usize
+    requires { ⌜ (placed ≤ 32) × (m ≤ 64) × (at + 3107 ≤ length (now buf)) ⌝ }
+    requires { ⌜ ((i : ℕ) → i < placed → getD (now order) i 0 < 32) ⌝ }
+    ensures { λ r. ⌜
+        Wrote (now (buf .entry)) at
+        (state-text (rows-of (now (order .entry)) (now (runs .entry)) (now (phase .entry)) placed)
+        (sheets-of (now (content .entry)) (now (wct .entry))) m (tally-of accepted first second)) 3107 r
+        (now (buf .exit))
+        ⌝ }
+{
+    let e = place_lines(buf, at, order, runs, phase, placed);
+    let f = sheet_lines(buf, e, content, wct, m);
+    tally_line(buf, f, accepted, first, second)
+}
