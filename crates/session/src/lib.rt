@@ -1,5 +1,6 @@
 // The run over a whole session.
-use state::{Answer, Verdict};
+use state::Answer;
+use state::Verdict;
 ghost use mathlib.Core.Path.{_≡_};
 ghost use Rattle.session.specs.Meaning.{refusal-in, reply-to};
 

@@ -60,7 +60,7 @@ fn three_line(buf: &mut [u8], at: usize, letter: u8, a: u32, b: u32, c: u32) -> 
 }
 
 // P t r o
-fn place_line(buf: &mut [u8], at: usize, save: u8, runs: u8, outcome: u8) -> usize
+pub fn place_line(buf: &mut [u8], at: usize, save: u8, runs: u8, outcome: u8) -> usize
     requires { ⌜ at + 26 ≤ length (now buf) ⌝ }
     ensures { λ r. ⌜
         Wrote (now (buf .entry)) at (rules.place-line (record { save = save; runs = runs; outcome = outcome })) 26 r
