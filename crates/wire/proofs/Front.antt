@@ -18,9 +18,9 @@ pub rest : (s : List ℕ) (a : ℕ) → take (length s - a) (drop a s) ≡ drop 
 rest s a = take-all (length s - a) (drop a s) (rw length-drop (omega arith))
 
 -- a test's two ways
-pub by-test : {A : Type 0} (P : A → Type 0) (b : Bool) (x y : A) → (b ≡ true → P x) → (b ≡ false → P y) → P (cond b x y)
-by-test P true x y f g = f refl
-by-test P false x y f g = g refl
+pub bool : {P : Type 0} (b : Bool) → (b ≡ true → P) → (b ≡ false → P) → P
+bool true f g = f refl
+bool false f g = g refl
 
 pub front-some : (s : List ℕ) → (length s ≡ 0 → ⊥) → front-in s ≡ some (front (getD s 0 0) (drop 1 s))
 front-some [] n = absurd (n refl)
@@ -59,8 +59,11 @@ Found b (some f) = (0 < widths (f .operands)) × (1 ≤ b) × (b ≤ 8)
 found-in : (b : ℕ) (fs : List Form) → Lines fs → Found b (form-of b fs)
 found-in b [] l = tt
 found-in b (f ∷ fs) l =
-    by-test (Found b) (eqb (f .number) b) (some f) (form-of b fs)
-    (λ e. let k = eqb-true (f .number) b e in (l .0, omega arith, omega arith)) (λ e. found-in b fs (l .3))
+    bool (eqb (f .number) b)
+    (λ e.
+    let k = eqb-true (f .number) b e in
+    rw e (l .0, omega arith, omega arith))
+    (λ e. rw e (found-in b fs (l .3)))
 
 found : (b : ℕ) → Found b (form-of b commands)
 found b = found-in b commands (search arith)
@@ -131,9 +134,9 @@ module _ (b : ℕ) (bs : List ℕ) where
   front-cut h = cut-by (form-of b commands) bs h
 
   -- for a number k of the table the command computes
-  pub front-whole : (k : ℕ) → b ≡ k → 0 < operand-bytes b → operand-bytes b ≤ length bs → front b bs ≡ whole (command-by (form-of k commands) bs) (operand-bytes b)
+  pub front-whole : (k : ℕ) → b ≡ k → (0 < operand-bytes b) × (operand-bytes b ≤ length bs) → front b bs ≡ whole (command-by (form-of k commands) bs) (operand-bytes b)
   unfolding operand-bytes
-  front-whole k e p h = rw (← e) (whole-by (form-of b commands) bs p h)
+  front-whole k e h = rw (← e) (whole-by (form-of b commands) bs (h .0) (h .1))
 
 -- ---- The front of the rest of a session
 

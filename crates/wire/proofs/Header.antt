@@ -15,11 +15,7 @@ use Rattle.rules.specs.Bytes.{byte, header, header-size, opens}
 use Rattle.wire.specs.declared.Opened.{Opened}
 use Rattle.wire.specs.declared.Opened.the-variants.{Header, Bad}
 use Rattle.wire.specs.Meaning.{opened, table, owners-of}
-
--- a test's two ways
-bool : {P : Type 0} (b : Bool) → (b ≡ true → P) → (b ≡ false → P) → P
-bool true f g = f refl
-bool false f g = g refl
+use Rattle.wire.proofs.Front.{bool}
 
 and-left : (a b : Bool) → a && b ≡ true → a ≡ true
 and-left true b e = refl
@@ -147,3 +143,7 @@ owners-at b e k =
     (λ t.
     let l = ltb-false k 64 t in
     List·getD-eq-default (owners-of b) 0 (omega (arith, length-table (header b .owner) 64)) ∙ owner-beyond b k (omega arith))
+
+-- and each sheet's owner is a node
+pub owner-below : (b : List ℕ) → opens b ≡ true → (k : ℕ) → k < byte b 1 → header b .owner k < byte b 0
+owner-below b e k h = ltb-true _ _ (all-at (owned b) (byte b 1) k (opens-has b e .1) h)
