@@ -1,5 +1,4 @@
 -- Every report fits 4,096 bytes where its numbers are below 2 to the 32 and the sizes are those of the paper.
-use mathlib.Core.Path.{_≡_, refl}
 use mathlib.Core.List.{List, [], _∷_, _++_, map}
 use Prim.Native.Nat.{ℕ, zero, suc, _+_, _*_, _^_, _≤_, _<_}
 use native.Mathlib.Omega.{arith}
@@ -8,13 +7,8 @@ use Rattle.rules.specs.Sizes.{max-saves, max-sheets, min-buffer}
 use Rattle.rules.specs.Bytes.{Stop, ended, stopped}
 use Rattle.rules.specs.State.{Sheet, Tally, State}
 use Rattle.rules.specs.Report.{Row, letter, rows, field, place-line, place-lines, sheet-line, sheet-lines, tally-line, refusal-line, stop-line, state-lines}
-use Rattle.text.specs.Lines.{opening, three, state-text}
+use Rattle.text.specs.Lines.{three}
 use Rattle.text.proofs.Figures.{decimal-short}
-
--- the rules put a state's lines together as the writer does
-pub state-lines-text : (s : State) → state-lines s ≡ state-text (rows s) (s .sheet) (s .header .sheets) (s .tally)
-unfolding state-lines state-text
-state-lines-text s = refl
 
 -- a number that a u32 holds
 abbrev pub Small : ℕ → Type 0
@@ -25,9 +19,6 @@ Small n = n < 2 ^ 32
 field-short : (n : ℕ) → Small n → length (field n) ≤ 11
 unfolding field
 field-short n h = omega (arith, decimal-short 9 n (omega arith))
-
-opening-short : (letter a b : ℕ) → Small a → Small b → length (opening letter a b) ≤ 23
-opening-short l a b h k = rw length-append (omega (arith, field-short a h, field-short b k))
 
 three-short : (letter a b c : ℕ) → Small a → Small b → Small c → length (three letter a b c) ≤ 35
 three-short l a b c h k m = simp length-append (omega (arith, field-short a h, field-short b k, field-short c m))

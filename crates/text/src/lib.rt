@@ -1,7 +1,7 @@
 // The report's lines. A writer stores them in a lent buffer from `at` on, and answers the place behind them. Each asks for
 // room as for the longest numbers of its types: a u32 has at most 10 figures.
 ghost use mathlib.Core.Path.{_≡_};
-ghost use mathlib.Core.List.{[], _∷_, _++_};
+ghost use mathlib.Core.List.{[], _∷_};
 ghost use Prim.Native.Nat.{ℕ, _+_, _*_, _<_, _≤_};
 ghost use lib.ListN.{length, getD};
 ghost use Rattle.rules.specs.Report as rules;
@@ -60,7 +60,7 @@ fn three_line(buf: &mut [u8], at: usize, letter: u8, a: u32, b: u32, c: u32) -> 
 }
 
 // P t r o
-fn place_line(buf: &mut [u8], at: usize, save: u8, runs: u8, outcome: u8) -> usize
+pub fn place_line(buf: &mut [u8], at: usize, save: u8, runs: u8, outcome: u8) -> usize
     requires { ⌜ at + 26 ≤ length (now buf) ⌝ }
     ensures { λ r. ⌜
         Wrote (now (buf .entry)) at (rules.place-line (record { save = save; runs = runs; outcome = outcome })) 26 r

@@ -1,16 +1,16 @@
 -- What the rules find at a command byte, by the table of commands, in the terms of the code.
-use mathlib.Core.Path.{_≡_, refl, sym, ap, _∙_}
-use mathlib.Core.Bool.{Bool, true, false, cond}
+use mathlib.Core.Path.{_≡_, refl, _∙_}
+use mathlib.Core.Bool.{Bool, true, false}
 use mathlib.Core.List.{List, [], _∷_}
 use mathlib.Core.Option.{Option, none, some}
-use Prim.Native.Nat.{ℕ, zero, suc, _+_, _-_, _≤_, _<_}
+use Prim.Native.Nat.{ℕ, zero, suc, _-_, _≤_, _<_}
 use native.Mathlib.Nat.{zero-add}
 use native.Mathlib.Omega.{arith}
 use borrow.Author.Tests.{lt-ltb, le-ltb, eqb-true}
 use lib.Dec.{eqb}
 use lib.ListN.{length, getD, take, drop, length-drop}
 use lib.Seq.{take-all, getD-drop}
-use Rattle.rules.specs.Bytes.{Form, Front, unknown, cut, whole, Command, Begin, form-of, commands, widths, values, big-endian, front-by, front}
+use Rattle.rules.specs.Bytes.{Form, unknown, cut, whole, Command, Begin, form-of, commands, widths, values, big-endian, front-by, front}
 use Rattle.wire.specs.Meaning.{front-in, width-of, operand-bytes, contents}
 
 -- what `&s[a..]` lends

@@ -8,11 +8,10 @@ use native.Mathlib.Omega.{arith}
 use borrow.Author.Tests.{le-leb, leb-true, ltb-true, ltb-false, eqb-true, eqb-false}
 use lib.Dec.{leb, ltb, eqb}
 use lib.ListN.{length, getD, take, drop, set, length-take, length-append, List·getD-eq-default, List·getD-append}
-use lib.Seq.{getD-take, getD-drop, take-suc-set, take-all, getD-append-seam}
+use lib.Seq.{getD-take, getD-drop, take-suc-set, getD-append-seam}
 use Rattle.rules.specs.Table.{all}
 use Rattle.rules.specs.Sizes.{max-nodes, max-sheets, max-session}
 use Rattle.rules.specs.Bytes.{byte, header, header-size, opens}
-use Rattle.wire.specs.declared.Opened.{Opened}
 use Rattle.wire.specs.declared.Opened.the-variants.{Header, Bad}
 use Rattle.wire.specs.Meaning.{opened, table, owners-of}
 use Rattle.wire.proofs.Front.{bool}

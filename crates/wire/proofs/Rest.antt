@@ -1,8 +1,8 @@
 -- How a session's reading goes on, by what stands at the front of the rest: the laws of a loop over the bytes.
-use mathlib.Core.Path.{_≡_, refl, sym, ap, _∙_}
+use mathlib.Core.Path.{_≡_, refl, ap}
 use mathlib.Core.List.{List, [], _∷_}
 use mathlib.Core.Option.{Option, none, some}
-use Prim.Native.Nat.{ℕ, zero, suc, _+_, _-_, _≤_, _<_}
+use Prim.Native.Nat.{ℕ, zero, suc, _+_, _-_, _≤_}
 use native.Mathlib.Nat.{add-zero, add-suc, suc-add}
 use native.Mathlib.Numerals.{add-one}
 use native.Mathlib.Omega.{arith}
@@ -10,7 +10,7 @@ use borrow.Author.Tests.{ltb-false}
 use lib.Dec.{ltb}
 use lib.ListN.{length, drop, length-drop}
 use lib.Seq.{drop-drop}
-use Rattle.rules.specs.Bytes.{Command, Form, Front, unknown, cut, whole, widths, values, front-by, front, form-of, commands, Step, Stop, ended, stopped, Reading, more, read-front, read-from}
+use Rattle.rules.specs.Bytes.{Command, Form, Front, unknown, cut, whole, widths, front-by, front, form-of, commands, ended, stopped, more, read-from}
 use Rattle.wire.specs.Meaning.{front-in}
 use Rattle.wire.proofs.Front.{bool}
 

@@ -1,5 +1,5 @@
 -- A session is refused where one of its sizes is out of range or, behind these, an owner; else it opens.
-use mathlib.Core.Path.{_≡_, sym, _∙_}
+use mathlib.Core.Path.{sym, _∙_}
 use native.Mathlib.Omega.{arith}
 use Rattle.wire.proofs.Header.{Opens, refused, refused-owners, admitted}
 use borrow.Author.Needs.{needs}
