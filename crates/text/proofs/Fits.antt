@@ -48,12 +48,13 @@ places-short f (t ∷ ts) h =
     let n = places-short f ts (λ i l. h (suc i) (omega arith)) in
     rw length-append (omega (arith, place-short (f t) (r .0) (r .1)))
 
-sheets-short : (sheet : ℕ → Sheet) (m : ℕ) → m ≤ max-sheets → ((k : ℕ) → Small (sheet k .content) × Small (sheet k .wct)) → length (sheet-lines sheet m) ≤ 35 * m
+sheets-short : (sheet : ℕ → Sheet) (m : ℕ) → m ≤ max-sheets → ((k : ℕ) → k < m → Small (sheet k .content) × Small (sheet k .wct)) → length (sheet-lines sheet m) ≤ 35 * m
 unfolding sheet-lines sheet-line
 sheets-short sheet zero l h = omega arith
 sheets-short sheet (suc k) l h =
-    let n = sheets-short sheet k (omega arith) h in
-    rw length-append (omega (arith, three-short 79 k (sheet k .content) (sheet k .wct) (omega arith) (h k .0) (h k .1)))
+    let n = sheets-short sheet k (omega arith) (λ i l. h i (omega arith)) in
+    let c = h k (omega arith) in
+    rw length-append (omega (arith, three-short 79 k (sheet k .content) (sheet k .wct) (omega arith) (c .0) (c .1)))
 
 -- ---- The report
 
@@ -61,7 +62,7 @@ pub record Small-state (s : State) : Type 0 where
   pub places : length (s .order) ≤ max-saves
   pub saves : (i : ℕ) → i < length (s .order) → Small (getD (s .order) i 0) × Small (s .runs (getD (s .order) i 0))
   pub sheets : s .header .sheets ≤ max-sheets
-  pub contents : (k : ℕ) → Small (s .sheet k .content) × Small (s .sheet k .wct)
+  pub contents : (k : ℕ) → k < s .header .sheets → Small (s .sheet k .content) × Small (s .sheet k .wct)
   pub tally : Small-tally (s .tally)
 
 abbrev pub Small-stop : Stop → Type 0

@@ -22,7 +22,7 @@ pub bool : {P : Type 0} (b : Bool) → (b ≡ true → P) → (b ≡ false → P
 bool true f g = f refl
 bool false f g = g refl
 
-pub front-some : (s : List ℕ) → (length s ≡ 0 → ⊥) → front-in s ≡ some (front (getD s 0 0) (drop 1 s))
+front-some : (s : List ℕ) → (length s ≡ 0 → ⊥) → front-in s ≡ some (front (getD s 0 0) (drop 1 s))
 front-some [] n = absurd (n refl)
 front-some (b ∷ bs) n = refl
 
@@ -35,7 +35,7 @@ first-byte (a ∷ l) = zero-add a
 pub second-byte : (l : List ℕ) → big-endian (take 1 (drop 1 l)) ≡ getD l 1 0
 second-byte l = first-byte (drop 1 l) ∙ getD-drop 1 l 0 0
 
-pub four-bytes : (l : List ℕ) → 4 ≤ length l → big-endian (take 4 l) ≡ contents (getD l 0 0) (getD l 1 0) (getD l 2 0) (getD l 3 0)
+four-bytes : (l : List ℕ) → 4 ≤ length l → big-endian (take 4 l) ≡ contents (getD l 0 0) (getD l 1 0) (getD l 2 0) (getD l 3 0)
 four-bytes (a ∷ b ∷ c ∷ d ∷ l) h = refl
 four-bytes (a ∷ b ∷ c ∷ []) h = absurd (omega arith)
 four-bytes (a ∷ b ∷ []) h = absurd (omega arith)
@@ -72,7 +72,7 @@ known-by : (b : ℕ) (o : Option Form) → Found b o → 0 < width-of o → (1 �
 known-by b none h w = absurd (omega arith)
 known-by b (some f) h w = (h .1, h .2)
 
-pub known : (b : ℕ) → 0 < operand-bytes b → (1 ≤ b) × (b ≤ 8)
+known : (b : ℕ) → 0 < operand-bytes b → (1 ≤ b) × (b ≤ 8)
 unfolding operand-bytes
 known b w = known-by b (form-of b commands) (found b) w
 
@@ -81,7 +81,7 @@ abbrev pub Not-to : ℕ → ℕ → Type 0
 Not-to b zero = Unit {0}
 Not-to b (suc k) = Not-to b k × (b ≡ suc k → ⊥)
 
-pub past : (b k : ℕ) → 1 ≤ b → Not-to b k → suc k ≤ b
+past : (b k : ℕ) → 1 ≤ b → Not-to b k → suc k ≤ b
 past b zero h n = h
 past b (suc k) h n =
     let l = past b k h (n .0) in
@@ -125,11 +125,11 @@ whole-by none bs p h = absurd (omega arith)
 whole-by (some f) bs p h = rw (le-ltb _ _ h)
 
 module _ (b : ℕ) (bs : List ℕ) where
-  pub front-unknown : operand-bytes b ≡ 0 → front b bs ≡ unknown
+  front-unknown : operand-bytes b ≡ 0 → front b bs ≡ unknown
   unfolding operand-bytes
   front-unknown e = unknown-by b (form-of b commands) bs (found b) e
 
-  pub front-cut : length bs < operand-bytes b → front b bs ≡ cut
+  front-cut : length bs < operand-bytes b → front b bs ≡ cut
   unfolding operand-bytes
   front-cut h = cut-by (form-of b commands) bs h
 
