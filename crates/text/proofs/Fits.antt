@@ -1,5 +1,4 @@
 -- Every report fits 4,096 bytes where its numbers are below 2 to the 32 and the sizes are those of the paper.
-use mathlib.Core.Path.{_≡_, refl}
 use mathlib.Core.List.{List, [], _∷_, _++_, map}
 use Prim.Native.Nat.{ℕ, zero, suc, _+_, _*_, _^_, _≤_, _<_}
 use native.Mathlib.Omega.{arith}
@@ -8,13 +7,8 @@ use Rattle.rules.specs.Sizes.{max-saves, max-sheets, min-buffer}
 use Rattle.rules.specs.Bytes.{Stop, ended, stopped}
 use Rattle.rules.specs.State.{Sheet, Tally, State}
 use Rattle.rules.specs.Report.{Row, letter, rows, field, place-line, place-lines, sheet-line, sheet-lines, tally-line, refusal-line, stop-line, state-lines}
-use Rattle.text.specs.Lines.{opening, three, state-text}
+use Rattle.text.specs.Lines.{three}
 use Rattle.text.proofs.Figures.{decimal-short}
-
--- the rules put a state's lines together as the writer does
-pub state-lines-text : (s : State) → state-lines s ≡ state-text (rows s) (s .sheet) (s .header .sheets) (s .tally)
-unfolding state-lines state-text
-state-lines-text s = refl
 
 -- a number that a u32 holds
 abbrev pub Small : ℕ → Type 0
@@ -25,9 +19,6 @@ Small n = n < 2 ^ 32
 field-short : (n : ℕ) → Small n → length (field n) ≤ 11
 unfolding field
 field-short n h = omega (arith, decimal-short 9 n (omega arith))
-
-opening-short : (letter a b : ℕ) → Small a → Small b → length (opening letter a b) ≤ 23
-opening-short l a b h k = rw length-append (omega (arith, field-short a h, field-short b k))
 
 three-short : (letter a b c : ℕ) → Small a → Small b → Small c → length (three letter a b c) ≤ 35
 three-short l a b c h k m = simp length-append (omega (arith, field-short a h, field-short b k, field-short c m))
@@ -57,12 +48,13 @@ places-short f (t ∷ ts) h =
     let n = places-short f ts (λ i l. h (suc i) (omega arith)) in
     rw length-append (omega (arith, place-short (f t) (r .0) (r .1)))
 
-sheets-short : (sheet : ℕ → Sheet) (m : ℕ) → m ≤ max-sheets → ((k : ℕ) → Small (sheet k .content) × Small (sheet k .wct)) → length (sheet-lines sheet m) ≤ 35 * m
+sheets-short : (sheet : ℕ → Sheet) (m : ℕ) → m ≤ max-sheets → ((k : ℕ) → k < m → Small (sheet k .content) × Small (sheet k .wct)) → length (sheet-lines sheet m) ≤ 35 * m
 unfolding sheet-lines sheet-line
 sheets-short sheet zero l h = omega arith
 sheets-short sheet (suc k) l h =
-    let n = sheets-short sheet k (omega arith) h in
-    rw length-append (omega (arith, three-short 79 k (sheet k .content) (sheet k .wct) (omega arith) (h k .0) (h k .1)))
+    let n = sheets-short sheet k (omega arith) (λ i l. h i (omega arith)) in
+    let c = h k (omega arith) in
+    rw length-append (omega (arith, three-short 79 k (sheet k .content) (sheet k .wct) (omega arith) (c .0) (c .1)))
 
 -- ---- The report
 
@@ -70,7 +62,7 @@ pub record Small-state (s : State) : Type 0 where
   pub places : length (s .order) ≤ max-saves
   pub saves : (i : ℕ) → i < length (s .order) → Small (getD (s .order) i 0) × Small (s .runs (getD (s .order) i 0))
   pub sheets : s .header .sheets ≤ max-sheets
-  pub contents : (k : ℕ) → Small (s .sheet k .content) × Small (s .sheet k .wct)
+  pub contents : (k : ℕ) → k < s .header .sheets → Small (s .sheet k .content) × Small (s .sheet k .wct)
   pub tally : Small-tally (s .tally)
 
 abbrev pub Small-stop : Stop → Type 0

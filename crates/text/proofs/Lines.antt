@@ -1,11 +1,9 @@
--- Lines one after the other, as the loops write them, and the rows in the rules' terms.
-use mathlib.Core.Path.{_≡_, refl, sym, ap, _∙_}
-use mathlib.Core.List.{List, [], _∷_, _++_, map, map-append, append-assoc, append-nil}
-use Prim.Native.Nat.{ℕ, zero, suc, _+_, _≤_, _<_}
+-- Lines one after the other, as the loops write them.
+use mathlib.Core.Path.{_≡_, sym}
+use mathlib.Core.List.{List, [], _∷_, _++_, append-assoc, append-nil}
+use Prim.Native.Nat.{ℕ, _+_}
 use native.Mathlib.Numerals.{add-one}
-use native.Mathlib.Omega.{arith}
-use lib.ListN.{length, getD, take}
-use lib.Seq.{take-suc}
+use lib.ListN.{getD}
 use Rattle.rules.specs.Report.{Row, place-line, place-lines, sheet-line, sheet-lines}
 use Rattle.text.specs.Lines.{row-of, rows-of, sheets-of}
 
@@ -23,10 +21,3 @@ module _ (content wct : List ℕ) (k : ℕ) where
   pub sheet-more : sheet-lines (sheets-of content wct) k ++ sheet-line k (getD content k 0) (getD wct k 0) ≡ sheet-lines (sheets-of content wct) (k + 1)
   unfolding sheet-lines
   sheet-more = rw add-one
-
--- the rules make the rows from the order
-pub rows-map : (order runs phase : List ℕ) (n : ℕ) → n ≤ length order → rows-of order runs phase n ≡ map (row-of runs phase) (take n order)
-unfolding rows-of
-rows-map order runs phase zero h = refl
-rows-map order runs phase (suc n) h =
-    rw (take-suc order n 0 h, map-append, rows-map order runs phase n (omega arith))

@@ -1,11 +1,12 @@
 -- Texts one after the other.
 use mathlib.Core.Path.{_≡_, refl, sym, ap, _∙_}
 use mathlib.Core.List.{List, [], _∷_, _++_}
-use Prim.Native.Nat.{ℕ, zero, suc, _+_, _≤_, _<_}
+use Prim.Native.Nat.{ℕ, suc, _+_, _≤_}
 use native.Mathlib.Nat.{zero-add, add-zero, add-suc, suc-add}
 use native.Mathlib.Omega.{arith}
 use lib.ListN.{length, drop, length-append}
 use lib.Seq.{sets, sets-eq, length-sets}
+use Rattle.rules.specs.Report.{in-front}
 use Rattle.text.specs.Wrote.{Wrote}
 
 sets-append : (xs ys l : List ℕ) (i : ℕ) → sets (sets l i xs) (i + length xs) ys ≡ sets l i (xs ++ ys)
@@ -42,7 +43,9 @@ wrote-next e h p q =
     let t = wrote-then p q in
     wrote-as e (omega (arith, ap length e)) t
 
--- from the front on
-pub wrote-front : {l m x : List ℕ} {b u : ℕ} → Wrote l 0 x u b m → u ≤ length l → (b ≡ length x) × (m ≡ x ++ drop (length x) l)
+-- a text at the front of a buffer with room for it, as the rules say of a call
+pub wrote-front : {l m x : List ℕ} {b u : ℕ} → Wrote l 0 x u b m → u ≤ length l → record { size = b; buffer = m } ≡ in-front x l
 wrote-front {l} {m} {x} {b} {u} p h =
-    (p .ends ∙ zero-add (length x), p .bytes ∙ sets-eq x l 0 (omega arith) ∙ rw zero-add)
+    let e : b ≡ length x = p .ends ∙ zero-add (length x) in
+    let f : m ≡ x ++ drop (length x) l = p .bytes ∙ sets-eq x l 0 (omega arith) ∙ rw zero-add in
+    λ i. record { size = e i; buffer = f i }

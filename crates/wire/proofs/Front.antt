@@ -1,24 +1,24 @@
 -- What the rules find at a command byte, by the table of commands, in the terms of the code.
-use mathlib.Core.Path.{_≡_, refl, sym, ap, _∙_}
-use mathlib.Core.Bool.{Bool, true, false, cond}
+use mathlib.Core.Path.{_≡_, refl, _∙_}
+use mathlib.Core.Bool.{Bool, true, false}
 use mathlib.Core.List.{List, [], _∷_}
 use mathlib.Core.Option.{Option, none, some}
-use Prim.Native.Nat.{ℕ, zero, suc, _+_, _-_, _≤_, _<_}
+use Prim.Native.Nat.{ℕ, zero, suc, _-_, _≤_, _<_}
 use native.Mathlib.Nat.{zero-add}
 use native.Mathlib.Omega.{arith}
 use borrow.Author.Tests.{lt-ltb, le-ltb, eqb-true}
 use lib.Dec.{eqb}
 use lib.ListN.{length, getD, take, drop, length-drop}
 use lib.Seq.{take-all, getD-drop}
-use Rattle.rules.specs.Bytes.{Form, Front, unknown, cut, whole, Command, Begin, form-of, commands, widths, values, big-endian, front-by, front}
-use Rattle.rules.proofs.Table.{cond-at}
+use Rattle.rules.specs.Bytes.{Form, unknown, cut, whole, Command, Begin, form-of, commands, widths, values, big-endian, front-by, front}
+use Rattle.rules.proofs.Table.{bool}
 use Rattle.wire.specs.Meaning.{front-in, width-of, operand-bytes, contents}
 
 -- what `&s[a..]` lends
 pub rest : (s : List ℕ) (a : ℕ) → take (length s - a) (drop a s) ≡ drop a s
 rest s a = take-all (length s - a) (drop a s) (rw length-drop (omega arith))
 
-pub front-some : (s : List ℕ) → (length s ≡ 0 → ⊥) → front-in s ≡ some (front (getD s 0 0) (drop 1 s))
+front-some : (s : List ℕ) → (length s ≡ 0 → ⊥) → front-in s ≡ some (front (getD s 0 0) (drop 1 s))
 front-some [] n = absurd (n refl)
 front-some (b ∷ bs) n = refl
 
@@ -31,7 +31,7 @@ first-byte (a ∷ l) = zero-add a
 pub second-byte : (l : List ℕ) → big-endian (take 1 (drop 1 l)) ≡ getD l 1 0
 second-byte l = first-byte (drop 1 l) ∙ getD-drop 1 l 0 0
 
-pub four-bytes : (l : List ℕ) → 4 ≤ length l → big-endian (take 4 l) ≡ contents (getD l 0 0) (getD l 1 0) (getD l 2 0) (getD l 3 0)
+four-bytes : (l : List ℕ) → 4 ≤ length l → big-endian (take 4 l) ≡ contents (getD l 0 0) (getD l 1 0) (getD l 2 0) (getD l 3 0)
 four-bytes (a ∷ b ∷ c ∷ d ∷ l) h = refl
 four-bytes (a ∷ b ∷ c ∷ []) h = absurd (omega arith)
 four-bytes (a ∷ b ∷ []) h = absurd (omega arith)
@@ -55,8 +55,11 @@ Found b (some f) = (0 < widths (f .operands)) × (1 ≤ b) × (b ≤ 8)
 found-in : (b : ℕ) (fs : List Form) → Lines fs → Found b (form-of b fs)
 found-in b [] l = tt
 found-in b (f ∷ fs) l =
-    cond-at (Found b) (eqb (f .number) b) (some f) (form-of b fs)
-    (λ e. let k = eqb-true (f .number) b e in (l .0, omega arith, omega arith)) (λ e. found-in b fs (l .3))
+    bool (eqb (f .number) b)
+    (λ e.
+    let k = eqb-true (f .number) b e in
+    rw e (l .0, omega arith, omega arith))
+    (λ e. rw e (found-in b fs (l .3)))
 
 found : (b : ℕ) → Found b (form-of b commands)
 found b = found-in b commands (search arith)
@@ -65,7 +68,7 @@ known-by : (b : ℕ) (o : Option Form) → Found b o → 0 < width-of o → (1 �
 known-by b none h w = absurd (omega arith)
 known-by b (some f) h w = (h .1, h .2)
 
-pub known : (b : ℕ) → 0 < operand-bytes b → (1 ≤ b) × (b ≤ 8)
+known : (b : ℕ) → 0 < operand-bytes b → (1 ≤ b) × (b ≤ 8)
 unfolding operand-bytes
 known b w = known-by b (form-of b commands) (found b) w
 
@@ -74,7 +77,7 @@ abbrev pub Not-to : ℕ → ℕ → Type 0
 Not-to b zero = Unit {0}
 Not-to b (suc k) = Not-to b k × (b ≡ suc k → ⊥)
 
-pub past : (b k : ℕ) → 1 ≤ b → Not-to b k → suc k ≤ b
+past : (b k : ℕ) → 1 ≤ b → Not-to b k → suc k ≤ b
 past b zero h n = h
 past b (suc k) h n =
     let l = past b k h (n .0) in
@@ -118,18 +121,18 @@ whole-by none bs p h = absurd (omega arith)
 whole-by (some f) bs p h = rw (le-ltb _ _ h)
 
 module _ (b : ℕ) (bs : List ℕ) where
-  pub front-unknown : operand-bytes b ≡ 0 → front b bs ≡ unknown
+  front-unknown : operand-bytes b ≡ 0 → front b bs ≡ unknown
   unfolding operand-bytes
   front-unknown e = unknown-by b (form-of b commands) bs (found b) e
 
-  pub front-cut : length bs < operand-bytes b → front b bs ≡ cut
+  front-cut : length bs < operand-bytes b → front b bs ≡ cut
   unfolding operand-bytes
   front-cut h = cut-by (form-of b commands) bs h
 
   -- for a number k of the table the command computes
-  pub front-whole : (k : ℕ) → b ≡ k → 0 < operand-bytes b → operand-bytes b ≤ length bs → front b bs ≡ whole (command-by (form-of k commands) bs) (operand-bytes b)
+  pub front-whole : (k : ℕ) → b ≡ k → (0 < operand-bytes b) × (operand-bytes b ≤ length bs) → front b bs ≡ whole (command-by (form-of k commands) bs) (operand-bytes b)
   unfolding operand-bytes
-  front-whole k e p h = rw (← e) (whole-by (form-of b commands) bs p h)
+  front-whole k e h = rw (← e) (whole-by (form-of b commands) bs (h .0) (h .1))
 
 -- ---- The front of the rest of a session
 

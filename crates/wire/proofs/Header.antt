@@ -8,12 +8,11 @@ use native.Mathlib.Omega.{arith}
 use borrow.Author.Tests.{le-leb, leb-true, ltb-true, ltb-false, eqb-true, eqb-false}
 use lib.Dec.{leb, ltb, eqb}
 use lib.ListN.{length, getD, take, drop, set, length-take, length-append, List·getD-eq-default, List·getD-append}
-use lib.Seq.{getD-take, getD-drop, take-suc-set, take-all, getD-append-seam}
+use lib.Seq.{getD-take, getD-drop, take-suc-set, getD-append-seam}
 use Rattle.rules.specs.Table.{all}
-use Rattle.rules.proofs.Table.{bool, and-l, and-r}
+use Rattle.rules.proofs.Table.{bool, and-l, and-r, all-at}
 use Rattle.rules.specs.Sizes.{max-nodes, max-sheets, max-session}
 use Rattle.rules.specs.Bytes.{byte, header, header-size, opens}
-use Rattle.wire.specs.declared.Opened.{Opened}
 use Rattle.wire.specs.declared.Opened.the-variants.{Header, Bad}
 use Rattle.wire.specs.Meaning.{opened, table, owners-of}
 
@@ -128,3 +127,7 @@ owners-at b e k =
     (λ t.
     let l = ltb-false k 64 t in
     List·getD-eq-default (owners-of b) 0 (omega (arith, length-table (header b .owner) 64)) ∙ owner-beyond b k (omega arith))
+
+-- and each sheet's owner is a node
+pub owner-below : (b : List ℕ) → opens b ≡ true → (k : ℕ) → k < byte b 1 → header b .owner k < byte b 0
+owner-below b e k h = ltb-true _ _ (all-at (byte b 1) (owned b) (opens-has b e .1) k h)

@@ -1,8 +1,8 @@
 -- How a session's reading goes on, by what stands at the front of the rest: the laws of a loop over the bytes.
-use mathlib.Core.Path.{_≡_, refl, sym, ap, _∙_}
+use mathlib.Core.Path.{_≡_, refl, ap}
 use mathlib.Core.List.{List, [], _∷_}
 use mathlib.Core.Option.{Option, none, some}
-use Prim.Native.Nat.{ℕ, zero, suc, _+_, _-_, _≤_, _<_}
+use Prim.Native.Nat.{ℕ, zero, suc, _+_, _-_, _≤_}
 use native.Mathlib.Nat.{add-zero, add-suc, suc-add}
 use native.Mathlib.Numerals.{add-one}
 use native.Mathlib.Omega.{arith}
@@ -10,8 +10,8 @@ use borrow.Author.Tests.{ltb-false}
 use lib.Dec.{ltb}
 use lib.ListN.{length, drop, length-drop}
 use lib.Seq.{drop-drop}
-use Rattle.rules.specs.Bytes.{Command, Form, Front, unknown, cut, whole, widths, values, front-by, front, form-of, commands, Step, Stop, ended, stopped, Reading, more, read-front, read-from}
-use Rattle.rules.proofs.Table.{cond-at}
+use Rattle.rules.specs.Bytes.{Command, Form, Front, unknown, cut, whole, widths, front-by, front, form-of, commands, ended, stopped, more, read-from}
+use Rattle.rules.proofs.Table.{bool}
 use Rattle.wire.specs.Meaning.{front-in}
 
 -- operand bytes are passed over
@@ -30,7 +30,7 @@ Within n (whole c w) = w ≤ n
 within-by : (o : Option Form) (bs : List ℕ) → Within (length bs) (front-by o bs)
 within-by none bs = tt
 within-by (some f) bs =
-    cond-at (Within (length bs)) (ltb (length bs) (widths (f .operands))) cut _ (λ e. tt) (λ e. ltb-false _ _ e)
+    bool (ltb (length bs) (widths (f .operands))) (λ e. rw e tt) (λ e. rw e (ltb-false _ _ e))
 
 -- ---- A list at offset p
 
@@ -58,12 +58,12 @@ module _ (p : ℕ) where
         let f : front b bs ≡ whole c w = cc in
         rw (f, add-one p) (ap (more (record { offset = p; size = suc w; command = c })) (skip w (suc p) bs))
 
-    list-fits : (l : List ℕ) → front-in l ≡ some (whole c w) → 1 + w ≤ length l
-    list-fits [] e = absurd (let z : _≡_ {A = ℕ} 0 1 = cc in omega arith)
-    list-fits (b ∷ bs) e =
-        let f : front b bs ≡ whole c w = cc in
-        let h : w ≤ length bs = rw f at (within-by (form-of b commands) bs) in
-        omega arith
+list-fits : (c : Command) (w : ℕ) (l : List ℕ) → front-in l ≡ some (whole c w) → 1 + w ≤ length l
+list-fits c w [] e = absurd (let z : _≡_ {A = ℕ} 0 1 = cc in omega arith)
+list-fits c w (b ∷ bs) e =
+    let f : front b bs ≡ whole c w = cc in
+    let h : w ≤ length bs = rw f at (within-by (form-of b commands) bs) in
+    omega arith
 
 -- ---- Session b at offset p
 
@@ -85,5 +85,5 @@ module _ (b : List ℕ) (p : ℕ) where
 
     pub step-fits : p + 1 + w ≤ length b
     step-fits =
-        let h = list-fits p c w (drop p b) e in
+        let h = list-fits c w (drop p b) e in
         omega (arith, length-drop p b)

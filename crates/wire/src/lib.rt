@@ -7,6 +7,13 @@ ghost use Rattle.rules.specs.Table.{all};
 ghost use Rattle.rules.specs.Bytes as rules;
 ghost use Rattle.wire.specs.Meaning.{command-of, front-of, front-in, operand-bytes, contents, write-of, opened, owners-of};
 
+// Sizes of one session, as the header states or obeys them.
+const MAX_SESSION: usize = 16384;
+
+const MAX_NODES: u8 = 8;
+
+const MAX_SHEETS: u8 = 64;
+
 // A command with its operands, as they stand in the bytes.
 pub enum Command {
     Begin(u8),
@@ -135,13 +142,13 @@ fn owners_below(session: &[u8], m: usize, n: u8) -> bool
     true
 }
 
-// Refusal 1 is earned where the answer is Bad.
+// The node count and the sheet count; refusal 1 where the answer is Bad.
 pub fn read_header(session: &[u8]) -> Opened
     ensures { λ r. ⌜ r ≡ opened (now (session .entry)) ⌝ }
 {
     let n = byte_at(session, 0);
     let m = byte_at(session, 1);
-    if 16384 < session.len() {
+    if MAX_SESSION < session.len() {
         return Opened::Bad;
     }
     if session.len() < 2 + m as usize {
@@ -150,13 +157,13 @@ pub fn read_header(session: &[u8]) -> Opened
     if n < 1 {
         return Opened::Bad;
     }
-    if 8 < n {
+    if MAX_NODES < n {
         return Opened::Bad;
     }
     if m < 1 {
         return Opened::Bad;
     }
-    if 64 < m {
+    if MAX_SHEETS < m {
         return Opened::Bad;
     }
     if owners_below(session, m as usize, n) {

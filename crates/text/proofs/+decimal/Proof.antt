@@ -1,3 +1,4 @@
+-- By the number: below 10 it is one figure, else the figures of a tenth of it and then the last.
 use mathlib.Core.Path.{_≡_, sym, ap, _∙_}
 use mathlib.Core.List.{List}
 use Prim.Native.Nat.{ℕ, _+_, _/_, _^_, _<_, _≤_}

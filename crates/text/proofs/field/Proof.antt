@@ -1,3 +1,4 @@
+-- A u32 has at most 10 figures.
 use native.Mathlib.Omega.{arith}
 use Rattle.rules.specs.Report as rules
 use Rattle.text.proofs.Figures.{decimal-short}

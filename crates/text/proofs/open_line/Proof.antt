@@ -1,3 +1,4 @@
+-- The letter, then the two fields.
 use Rattle.text.proofs.Writing.{wrote-then}
 use borrow.Author.Needs.{needs}
 use Rattle.text.proofs.open_line.Statement.{statement}

@@ -1,3 +1,4 @@
+-- The opening, then a blank, the letter and the line's end.
 use Rattle.rules.specs.Report as rules
 use Rattle.text.proofs.Writing.{wrote-then}
 use borrow.Author.Needs.{needs}

@@ -1,3 +1,4 @@
+-- The row's letter is that of the phase.
 use borrow.Author.Needs.{needs}
 use Rattle.text.proofs.row_line.Statement.{statement}
 use Rattle.text.proofs.row_line.Tie as tie

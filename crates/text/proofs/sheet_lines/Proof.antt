@@ -1,4 +1,5 @@
-use Prim.Native.Nat.{_+_, _*_, _-_, _≤_}
+-- Before sheet k the lines of the first k sheets stand there, in room for as many.
+use Prim.Native.Nat.{_*_, _-_, _≤_}
 use mathlib.Core.Path.{_≡_}
 use native.Mathlib.Omega.{arith}
 use Rattle.rules.specs.Report as rules

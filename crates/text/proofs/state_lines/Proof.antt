@@ -1,3 +1,4 @@
+-- The three parts one after the other; the sizes bound the room.
 use mathlib.Core.Path.{refl}
 use native.Mathlib.Omega.{arith}
 use Rattle.text.specs.Lines.{state-text}
@@ -21,7 +22,6 @@ same-length c = search needs
 returns : tie.Need-returns
 unfolding state-text
 returns c =
-    let a = c .before .before .before .before .before .before .before .before .before .before .before .before .before .pre .0 in
     wrote-next refl (omega arith) (wrote-then (c .before .before .before .before .before .before .before .before .before .before .place-lines .ensures) (c .before .before .before .before .before .before .sheet-lines .ensures)) (c .before .before .tally-line .ensures)
 
 pub state-lines-spec : {M : Type 1} → statement M

@@ -1,3 +1,4 @@
+-- A line of three fields under the letter T.
 use Rattle.rules.specs.Report as rules
 use borrow.Author.Needs.{needs}
 use Rattle.text.proofs.tally_line.Statement.{statement}

@@ -1,3 +1,4 @@
+-- The opening, a field, the line's end.
 use Rattle.text.proofs.Writing.{wrote-then}
 use borrow.Author.Needs.{needs}
 use Rattle.text.proofs.three_line.Statement.{statement}

@@ -1,3 +1,4 @@
+-- Beyond the end `getD` answers its default.
 use mathlib.Core.Path.{sym}
 use lib.ListN.{List·getD-eq-default}
 use borrow.Author.Needs.{needs}

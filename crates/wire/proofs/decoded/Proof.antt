@@ -1,3 +1,4 @@
+-- Each arm's line of the table computes; the last arm is 8, the one number left that has operands.
 use mathlib.Core.Path.{_≡_, ap}
 use native.Mathlib.Omega.{arith}
 use borrow.Author.Needs.{needs}
@@ -46,34 +47,34 @@ shared-slice-read-t21 : tie.Need-shared-slice-read-t21
 shared-slice-read-t21 c = search needs
 
 returns : tie.Need-returns
-returns c = rw (front-whole _ _ 1 (c .before .match .keys1) (c .before .before .before .pre .0) (c .before .before .before .pre .1), first-byte)
+returns c = rw (front-whole _ _ 1 (c .before .match .keys1) (c .before .before .before .pre), first-byte)
 
 returns-2 : tie.Need-returns-2
-returns-2 c = rw (front-whole _ _ 2 (c .before .before .match .keys2) (c .before .before .before .before .pre .0) (c .before .before .before .before .pre .1), first-byte, second-byte)
+returns-2 c = rw (front-whole _ _ 2 (c .before .before .match .keys2) (c .before .before .before .before .pre), first-byte, second-byte)
 
 returns-3 : tie.Need-returns-3
 unfolding operand-bytes
 returns-3 c =
     let p = c .before .before .before .pre in
     let w : operand-bytes (c .before .before .before .args .b) ≡ 6 = ap operand-bytes (c .before .match .keys3) in
-    rw (front-whole _ _ 3 (c .before .match .keys3) (p .0) (p .1), c .write .ensures, first-byte, second-byte, last-bytes (c .before .before .before .args .s .now) (omega arith))
+    rw (front-whole _ _ 3 (c .before .match .keys3) p, c .write .ensures, first-byte, second-byte, last-bytes (c .before .before .before .args .s .now) (omega arith))
 
 returns-4 : tie.Need-returns-4
-returns-4 c = rw (front-whole _ _ 4 (c .before .match .keys4) (c .before .before .before .pre .0) (c .before .before .before .pre .1), first-byte)
+returns-4 c = rw (front-whole _ _ 4 (c .before .match .keys4) (c .before .before .before .pre), first-byte)
 
 returns-5 : tie.Need-returns-5
-returns-5 c = rw (front-whole _ _ 5 (c .before .match .keys5) (c .before .before .before .pre .0) (c .before .before .before .pre .1), first-byte)
+returns-5 c = rw (front-whole _ _ 5 (c .before .match .keys5) (c .before .before .before .pre), first-byte)
 
 returns-6 : tie.Need-returns-6
-returns-6 c = rw (front-whole _ _ 6 (c .before .match .keys6) (c .before .before .before .pre .0) (c .before .before .before .pre .1), first-byte)
+returns-6 c = rw (front-whole _ _ 6 (c .before .match .keys6) (c .before .before .before .pre), first-byte)
 
 returns-7 : tie.Need-returns-7
-returns-7 c = rw (front-whole _ _ 7 (c .before .before .match .keys7) (c .before .before .before .before .pre .0) (c .before .before .before .before .pre .1), first-byte, second-byte)
+returns-7 c = rw (front-whole _ _ 7 (c .before .before .match .keys7) (c .before .before .before .before .pre), first-byte, second-byte)
 
 returns-8 : tie.Need-returns-8
 returns-8 c =
     let p = c .before .before .before .pre in
-    rw (front-whole _ _ 8 (eighth _ (p .0) (c .before .match .rest)) (p .0) (p .1), first-byte)
+    rw (front-whole _ _ 8 (eighth _ (p .0) (c .before .match .rest)) p, first-byte)
 
 pub decoded-spec : {M : Type 1} → statement M
 decoded-spec =

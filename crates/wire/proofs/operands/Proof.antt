@@ -1,3 +1,4 @@
+-- Each number of the table computes; behind the eight arms the byte is no command.
 use mathlib.Core.Path.{sym, ap}
 use Rattle.wire.specs.Meaning.{operand-bytes}
 use Rattle.wire.proofs.Front.{no-operands}

@@ -1,3 +1,4 @@
+-- Below the sheet count the owner is the byte two further on.
 use mathlib.Core.Path.{_∙_}
 use native.Mathlib.Omega.{arith}
 use Rattle.wire.proofs.Header.{owner-in, owner-beyond}

@@ -1,7 +1,8 @@
+-- The first k owners are those of the header.
 use mathlib.Core.Path.{_≡_, refl, sym, _∙_}
 use Prim.Native.Nat.{_≤_, _-_}
 use native.Mathlib.Omega.{arith}
-use lib.ListN.{length, take, length-replicate, length-set}
+use lib.ListN.{length, take, length-set}
 use lib.Seq.{take-all}
 use Rattle.rules.specs.Bytes.{header}
 use Rattle.wire.specs.Meaning.{table}

@@ -1,3 +1,4 @@
+-- The sheets passed have owners below n; the first that has not decides.
 use mathlib.Core.Path.{_≡_, refl}
 use mathlib.Core.Bool.{true}
 use Prim.Native.Nat.{_≤_, _-_}

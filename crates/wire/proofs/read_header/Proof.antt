@@ -1,4 +1,5 @@
-use mathlib.Core.Path.{_≡_, sym, _∙_}
+-- A session is refused where one of its sizes is out of range or, behind these, an owner; else it opens.
+use mathlib.Core.Path.{sym, _∙_}
 use native.Mathlib.Omega.{arith}
 use Rattle.wire.proofs.Header.{Opens, refused, refused-owners, admitted}
 use borrow.Author.Needs.{needs}
@@ -12,10 +13,7 @@ byte-at-requires-2 : tie.Need-byte-at-requires-2
 byte-at-requires-2 c κs = search needs
 
 returns : tie.Need-returns
-returns c =
-    let n = c .before .before .byte-at .ensures in
-    let m = c .before .byte-at2 .ensures in
-    refused (c .before .before .before .before .args .session .now) (λ h. omega arith)
+returns c = refused (c .before .before .before .before .args .session .now) (λ h. omega arith)
 
 cast-if2 : tie.Need-cast-if2
 cast-if2 c = search needs
@@ -24,34 +22,19 @@ add-if2 : tie.Need-add-if2
 add-if2 c = search needs
 
 returns-2 : tie.Need-returns-2
-returns-2 c =
-    let n = c .before .before .before .byte-at .ensures in
-    let m = c .before .before .byte-at2 .ensures in
-    refused (c .before .before .before .before .before .args .session .now) (λ h. omega arith)
+returns-2 c = refused (c .before .before .before .before .before .args .session .now) (λ h. omega arith)
 
 returns-3 : tie.Need-returns-3
-returns-3 c =
-    let n = c .before .before .before .before .byte-at .ensures in
-    let m = c .before .before .before .byte-at2 .ensures in
-    refused (c .before .before .before .before .before .before .args .session .now) (λ h. omega arith)
+returns-3 c = refused (c .before .before .before .before .before .before .args .session .now) (λ h. omega arith)
 
 returns-4 : tie.Need-returns-4
-returns-4 c =
-    let n = c .before .before .before .before .before .byte-at .ensures in
-    let m = c .before .before .before .before .byte-at2 .ensures in
-    refused (c .before .before .before .before .before .before .before .args .session .now) (λ h. omega arith)
+returns-4 c = refused (c .before .before .before .before .before .before .before .args .session .now) (λ h. omega arith)
 
 returns-5 : tie.Need-returns-5
-returns-5 c =
-    let n = c .before .before .before .before .before .before .byte-at .ensures in
-    let m = c .before .before .before .before .before .byte-at2 .ensures in
-    refused (c .before .before .before .before .before .before .before .before .args .session .now) (λ h. omega arith)
+returns-5 c = refused (c .before .before .before .before .before .before .before .before .args .session .now) (λ h. omega arith)
 
 returns-6 : tie.Need-returns-6
-returns-6 c =
-    let n = c .before .before .before .before .before .before .before .byte-at .ensures in
-    let m = c .before .before .before .before .before .before .byte-at2 .ensures in
-    refused (c .before .before .before .before .before .before .before .before .before .args .session .now) (λ h. omega arith)
+returns-6 c = refused (c .before .before .before .before .before .before .before .before .before .args .session .now) (λ h. omega arith)
 
 cast-owners-below : tie.Need-cast-owners-below
 cast-owners-below c = search needs

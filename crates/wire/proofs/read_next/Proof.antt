@@ -1,3 +1,4 @@
+-- Each answer by the number of operand bytes that the table asks for.
 use native.Mathlib.Omega.{arith}
 use lib.ListN.{length-drop}
 use Rattle.wire.proofs.Front.{rest, rest-end, rest-unknown, rest-cut, rest-whole}

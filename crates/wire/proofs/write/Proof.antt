@@ -1,3 +1,4 @@
+-- The content is the last four bytes, most significant first.
 use borrow.Author.Needs.{needs}
 use Rattle.wire.proofs.write.Statement.{statement}
 use Rattle.wire.proofs.write.Tie as tie
