@@ -1,16 +1,16 @@
 -- The lines of the first rows, one row at a time.
 use mathlib.Core.Path.{_≡_, refl, sym, ap, _∙_}
-use mathlib.Core.List.{List, [], _∷_, _++_, map, append-assoc, append-nil}
+use mathlib.Core.List.{List, [], _∷_, _++_, map, map-append, append-assoc, append-nil}
 use Prim.Native.Nat.{ℕ, zero, suc, _+_, _*_, _≤_, _<_}
 use native.Mathlib.Numerals.{add-one}
 use native.Mathlib.Omega.{arith}
-use lib.ListN.{length, getD, take}
-use lib.Seq.{take-suc}
+use lib.ListN.{length, getD, take, set}
+use lib.Seq.{take-suc, take-suc-set}
 use Rattle.rules.specs.Report as rules
 use Rattle.text.specs.Wrote.{Wrote}
 use Rattle.text.proofs.Writing.{wrote-none, wrote-next, wrote-end}
 use Rattle.rows.specs.declared.Row.{Row}
-use Rattle.rows.specs.Rows.{row-of, lines-of}
+use Rattle.rows.specs.Rows.{row-of, lines-of, letter-of, rows-of}
 
 abbrev pub line-of : Row → List ℕ
 line-of x = rules.place-line (row-of x)
@@ -34,3 +34,10 @@ module _ (rs : List Row) where
   pub row-none : (ys : List ℕ) (a : ℕ) → Wrote ys a (upto 0) (26 * 0) a ys
   unfolding rules.place-lines
   row-none ys a = wrote-none ys a
+
+-- the rows made of the arrays, one place on
+module _ (order runs phase : List ℕ) where
+  pub row-more : (rs : List Row) (i o : ℕ) → i < length rs → o ≡ letter-of (getD phase (getD order i 0) 0) → map row-of (take i rs) ≡ rows-of order runs phase i
+      → map row-of (take (i + 1) (set rs i (record { save = getD order i 0; runs = getD runs (getD order i 0) 0; outcome = o }))) ≡ rows-of order runs phase (i + 1)
+  unfolding rows-of
+  row-more rs i o h e m = rw (add-one i, take-suc-set rs i _ h, map-append, m, e)

@@ -2,11 +2,11 @@
 // room as for the longest numbers of its types: a u32 has at most 10 figures.
 ghost use mathlib.Core.Path.{_≡_};
 ghost use mathlib.Core.List.{[], _∷_};
-ghost use Prim.Native.Nat.{ℕ, _+_, _*_, _<_, _≤_};
-ghost use lib.ListN.{length, getD};
+ghost use Prim.Native.Nat.{_+_, _*_, _<_, _≤_};
+ghost use lib.ListN.{length};
 ghost use Rattle.rules.specs.Report as rules;
 ghost use Rattle.text.specs.Wrote.{Wrote};
-ghost use Rattle.text.specs.Lines.{letter-of, row-of, rows-of, sheets-of, tally-of, opening, three, state-text};
+ghost use Rattle.text.specs.Lines.{sheets-of, tally-of, opening, three};
 
 // One byte.
 fn put(buf: &mut [u8], at: usize, b: u8) -> usize
@@ -82,58 +82,6 @@ pub fn refusal_line(buf: &mut [u8], at: usize, p: u32, c: u8) -> usize
     put(buf, e, 10)
 }
 
-// A phase's letter: C committed, D dropped, U neither yet.
-fn letter(phase: u8) -> u8
-    ensures { λ r. ⌜ r ≡ letter-of phase ⌝ }
-{
-    if phase == 4 {
-        return b'C';
-    }
-    if 4 < phase {
-        return b'D';
-    }
-    b'U'
-}
-
-// Save t's P line.
-fn row_line(buf: &mut [u8], at: usize, t: u8, runs: &[u8; 32], phase: &[u8; 32]) -> usize
-    requires { ⌜ (t < 32) × (at + 26 ≤ length (now buf)) ⌝ }
-    ensures { λ r. ⌜
-        Wrote (now (buf .entry)) at (rules.place-line (row-of (now (runs .entry)) (now (phase .entry)) t)) 26 r
-        (now (buf .exit))
-        ⌝ }
-{
-    let i = t as usize;
-    let outcome = letter(phase[i]);
-    place_line(buf, at, t, runs[i], outcome)
-}
-
-// The P lines of the first `count` places.
-pub fn place_lines(
-    buf: &mut [u8],
-    at: usize,
-    order: &[u8; 32],
-    runs: &[u8; 32],
-    phase: &[u8; 32],
-    count: usize,
-) -> usize
-    requires { ⌜ (count ≤ 32) × (at + 26 * count ≤ length (now buf)) ⌝ }
-    requires { ⌜ ((i : ℕ) → i < count → getD (now order) i 0 < 32) ⌝ }
-    ensures { λ r. ⌜
-        Wrote (now (buf .entry)) at
-        (rules.place-lines (rows-of (now (order .entry)) (now (runs .entry)) (now (phase .entry)) count)) (26 * count) r
-        (now (buf .exit))
-        ⌝ }
-{
-    let mut e = at;
-    let mut i: usize = 0;
-    while i < count {
-        e = row_line(buf, e, order[i], runs, phase);
-        i += 1;
-    }
-    e
-}
-
 // The O lines of the first `m` sheets.
 pub fn sheet_lines(
     buf: &mut [u8],
@@ -163,33 +111,4 @@ pub fn tally_line(buf: &mut [u8], at: usize, accepted: u32, first: u32, second: 
     ensures { λ r. ⌜ Wrote (now (buf .entry)) at (rules.tally-line (tally-of accepted first second)) 35 r (now (buf .exit)) ⌝ }
 {
     three_line(buf, at, b'T', accepted, first, second)
-}
-
-// All lines of a state: the P, O and T lines, of at most 26 * 32 + 35 * 64 + 35 bytes.
-pub fn state_lines(
-    buf: &mut [u8],
-    at: usize,
-    order: &[u8; 32],
-    runs: &[u8; 32],
-    phase: &[u8; 32],
-    placed: usize,
-    content: &[u32; 64],
-    wct: &[u32; 64],
-    m: usize,
-    accepted: u32,
-    first: u32,
-    second: u32,
-) -> usize
-    requires { ⌜ (placed ≤ 32) × (m ≤ 64) × (at + 3107 ≤ length (now buf)) ⌝ }
-    requires { ⌜ ((i : ℕ) → i < placed → getD (now order) i 0 < 32) ⌝ }
-    ensures { λ r. ⌜
-        Wrote (now (buf .entry)) at
-        (state-text (rows-of (now (order .entry)) (now (runs .entry)) (now (phase .entry)) placed)
-        (sheets-of (now (content .entry)) (now (wct .entry))) m (tally-of accepted first second)) 3107 r
-        (now (buf .exit))
-        ⌝ }
-{
-    let e = place_lines(buf, at, order, runs, phase, placed);
-    let f = sheet_lines(buf, e, content, wct, m);
-    tally_line(buf, f, accepted, first, second)
 }

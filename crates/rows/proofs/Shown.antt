@@ -7,10 +7,11 @@ use lib.ListN.{length, getD, take}
 use lib.Seq.{take-suc}
 use Rattle.rules.specs.State.{Sheet, State}
 use Rattle.rules.specs.Report.{Row, letter, rows, sheet-lines, state-lines}
-use Rattle.text.specs.Lines.{letter-of, row-of, rows-of, sheets-of, state-text}
+use Rattle.text.specs.Lines.{sheets-of}
+use Rattle.rows.specs.Rows.{letter-of, row-in, rows-of, state-text}
 
 module _ (order runs phase : List ℕ) where
-  places-shown : (f : ℕ → Row) (n : ℕ) → n ≤ length order → ((i : ℕ) → i < n → f (getD order i 0) ≡ row-of runs phase (getD order i 0)) → map f (take n order) ≡ rows-of order runs phase n
+  places-shown : (f : ℕ → Row) (n : ℕ) → n ≤ length order → ((i : ℕ) → i < n → f (getD order i 0) ≡ row-in runs phase (getD order i 0)) → map f (take n order) ≡ rows-of order runs phase n
   unfolding rows-of
   places-shown f zero h e = refl
   places-shown f (suc n) h e =

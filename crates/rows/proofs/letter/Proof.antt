@@ -1,7 +1,7 @@
 -- Each test decides the letter.
 use borrow.Author.Tests.{eq-eqb, ne-eqb, lt-ltb, le-ltb}
-use Rattle.text.proofs.letter.Statement.{statement}
-use Rattle.text.proofs.letter.Tie as tie
+use Rattle.rows.proofs.letter.Statement.{statement}
+use Rattle.rows.proofs.letter.Tie as tie
 
 returns : tie.Need-returns
 returns c = rw (eq-eqb _ _ (c .if1 .taken))
