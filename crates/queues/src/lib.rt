@@ -1,19 +1,12 @@
 // The tests that the commands make of queues. A queue is not stored: its entries are the saves at the places that its node has taken,
 // with their byte in `standing` set and a claim on the sheet. One walk over those places answers every test.
-ghost use Prim.Native.Nat.{ℕ, _+_, _*_, _<_, _≤_};
+ghost use Prim.Native.Nat.{ℕ, _<_};
 ghost use mathlib.Core.Path.{_≡_};
-ghost use mathlib.Core.Bool.{_&&_, _||_, not};
-ghost use mathlib.Core.List.{[]};
-ghost use lib.ListN.{getD};
-ghost use lib.Dec.{eqb, ltb};
-ghost use Rattle.rules.specs.Table.{all, any};
-ghost use Rattle.rules.specs.State.{claims};
-ghost use Rattle.rules.specs.Steps.{holds, at-front, before, x-on, granted-as, granted, has-taken, finds-invalid, has-entry};
+ghost use Rattle.rules.specs.Steps.{holds, at-front, before, x-on, granted-as};
 ghost use Rattle.state.specs.Places.{at};
-ghost use Rattle.state.specs.View.{set?, flat, claim-in, queue-in, view, no-tally};
-ghost use Rattle.state.specs.Ready.{Small, Once, Ready};
+ghost use Rattle.state.specs.View.{claim-in, queue-in};
+ghost use Rattle.state.specs.Ready.{Once};
 ghost use Rattle.queues.specs.Walk.{halt-of, halts, stop, least-of, Walk};
-use state::Control;
 
 // No save: a walk that is given it stops only by claims.
 const NO_SAVE: u8 = 32;
@@ -64,7 +57,7 @@ fn first(
 }
 
 // The queue of sheet k holds an X.
-fn holds_x(
+pub fn holds_x(
     order: &[u8; 32],
     standing: &[u8; 256],
     claim: &[u8; 2048],
@@ -111,7 +104,7 @@ fn least(c: u8) -> u8
 }
 
 // Save t's entry at sheet k is granted, or t claims nothing there.
-fn granted_at(
+pub fn granted_at(
     order: &[u8; 32],
     standing: &[u8; 256],
     claim: &[u8; 2048],

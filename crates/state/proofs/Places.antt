@@ -1,14 +1,21 @@
--- Laws of `entries`.
+-- The length of the order, and laws of `entries`.
 use Prim.Native.Nat.{ℕ, zero, suc, _<_}
 use mathlib.Core.Path.{_≡_, refl, sym, ap, _∙_}
 use mathlib.Core.Bool.{Bool, true, false, not, _&&_, cond}
 use mathlib.Core.List.{List, [], _∷_, _++_}
 use native.Mathlib.Omega.{arith}
 use native.Mathlib.Nat.{le-refl}
+use lib.ListN.{length, take}
+use lib.Seq.{length-take-le}
 use lib.Dec.{eqb}
 use Rattle.rules.specs.Steps.{without}
+use Rattle.state.specs.declared.Control.{Control}
 use Rattle.state.specs.Places.{at, by, entries}
+use Rattle.state.specs.Ready.{Ready}
 use Rattle.state.proofs.Tables.{bool}
+
+pub order-length : (d : Control) → length (d .order) ≡ 32 → Ready d → length (take (d .placed) (d .order)) ≡ d .placed
+order-length d lo ready = length-take-le (d .placed) (d .order) (rw lo (ready .fits))
 
 pub entries-on : (order : List ℕ) (place : ℕ → ℕ) (f : ℕ → Bool) (p : ℕ)
     → entries order place f (suc p) ≡ cond (by order place f p) (entries order place f p ++ at order p ∷ []) (entries order place f p)

@@ -1,0 +1,118 @@
+-- What TAKE stores is its rule's effect.
+use Prim.Native.Nat.{ℕ, suc, _+_, _*_, _≤_, _<_}
+use mathlib.Core.Path.{_≡_, refl, sym, ap, subst, _∙_, fun-ext}
+use mathlib.Core.Bool.{Bool, true, false, _&&_, _||_, cond, or-true, or-false}
+use mathlib.Core.List.{List, [], _∷_, _++_}
+use native.Mathlib.Omega.{arith}
+use native.Mathlib.Numerals.{add-one}
+use lib.ListN.{length, getD, set, take}
+use lib.Seq.{getD-set-same, getD-set-other, getD-take}
+use lib.Dec.{ltb, eqb}
+use borrow.Author.Tests.{eq-eqb, ne-eqb, lt-ltb, le-ltb}
+use Rattle.rules.specs.Bytes.{Take}
+use Rattle.rules.specs.Table.{upd}
+use Rattle.rules.specs.State.{claims}
+use Rattle.rules.specs.Steps as rules
+use Rattle.rules.specs.Steps.{finds-invalid}
+use Rattle.state.specs.declared.Control.{Control}
+use Rattle.state.specs.declared.Verdict.{Verdict}
+use Rattle.state.specs.declared.Answer.the-variants.{Took, Refused}
+use Rattle.state.specs.Places.{at, by, entries}
+use Rattle.state.specs.View.{set?, claim-in, entered, queue-in, view, no-tally, verdict-of, Steps}
+use Rattle.state.specs.Ready.{Ready}
+use Rattle.state.proofs.Tables.{same?, upd-by}
+use Rattle.state.proofs.Stores.{view-set}
+use Rattle.state.proofs.Places.{entries-on, entries-cong, order-length}
+use Rattle.state.proofs.Steps.{refused, accepted, same-state}
+
+abbrev pub took : Control → (failed : List ℕ) → (n : ℕ) → Control
+took d failed n = record {
+  nodes = d .nodes;
+  sheets = d .sheets;
+  placed = d .placed;
+  owner = d .owner;
+  phase = d .phase;
+  failed = failed;
+  runs = d .runs;
+  order = d .order;
+  place = d .place;
+  taken = set (d .taken) n (getD (d .taken) n 0 + 1);
+}
+
+module _ (d : Control) (lo : length (d .order) ≡ 32) (ready : Ready d) where
+  pub take-9 : (value seen mark claim standing content wct : List ℕ) (n : ℕ) → n < d .nodes → d .placed ≤ getD (d .taken) n 0
+      → Steps (view d value seen mark claim standing content wct) (Take n) (view d value seen mark claim standing content wct) (Refused 9)
+  take-9 value seen mark claim standing content wct n h l = refused (λ tally. rw (lt-ltb n (d .nodes) h, order-length d lo ready, le-ltb (getD (d .taken) n 0) (d .placed) l))
+
+  module _ (claim standing : List ℕ) (n : ℕ) (n8 : n < 8) (lt : length (d .taken) ≡ 8) (ls : length standing ≡ 256) (h : getD (d .taken) n 0 < d .placed) where
+    abbrev p : ℕ
+    p = getD (d .taken) n 0
+
+    abbrev t : ℕ
+    t = at (d .order) (getD (d .taken) n 0)
+
+    abbrev place : ℕ → ℕ
+    place u = getD (d .place) u 0
+
+    abbrev standing′ : List ℕ
+    standing′ = set standing (n * 32 + at (d .order) (getD (d .taken) n 0)) 1
+
+    -- the entries of the places before are as they were
+    stays : (m k q : ℕ) → q < getD (d .taken) m 0 → entered standing′ claim m k (at (d .order) q) ≡ entered standing claim m k (at (d .order) q)
+    unfolding entered
+    stays m k q l =
+        let y = ready .takens m in
+        let small = ready .small q (omega arith) in
+        let s = ready .small p h in
+        rw (getD-set-other standing (n * 32 + t) (m * 32 + at (d .order) q) 1 0 (λ z.
+        let mn : m ≡ n = omega arith in
+        let same : at (d .order) q ≡ t = omega arith in
+        let qp : q ≡ p = sym (ready .once q (omega arith)) ∙ ap place same ∙ ready .once p h in
+        before mn qp l))
+      where
+        before : {m q : ℕ} → m ≡ n → q ≡ p → q < getD (d .taken) m 0 → ⊥
+        before e f l = let z : p < p = rw (e, f) at l in omega arith
+
+    -- t's own place counts where it claims the sheet
+    joins : (k : ℕ) → by (d .order) place (entered standing′ claim n k) p ≡ claims (claim-in claim t k)
+    unfolding by entered
+    joins k = rw (eq-eqb (place t) p (ready .once p h), getD-set-same standing (n * 32 + t) 1 0 (let s = ready .small p h in rw ls (omega arith)))
+
+    abbrev Grows : ℕ → ℕ → Type 0
+    Grows k m =
+        queue-in (d .order) place standing′ claim m k (getD (set (d .taken) n (p + 1)) m 0)
+        ≡ cond (eqb m n && claims (claim-in claim t k))
+        (queue-in (d .order) place standing claim m k (getD (d .taken) m 0) ++ t ∷ [])
+        (queue-in (d .order) place standing claim m k (getD (d .taken) m 0))
+
+    before-same : (k m : ℕ) → queue-in (d .order) place standing′ claim m k (getD (d .taken) m 0) ≡ queue-in (d .order) place standing claim m k (getD (d .taken) m 0)
+    before-same k m =
+        entries-cong (d .order) (d .order) place place (entered standing′ claim m k) (entered standing claim m k) (getD (d .taken) m 0) (λ q l. refl) (λ q l. refl) (stays m k)
+
+    grows : (k m : ℕ) → Grows k m
+    grows k m =
+        same? m n
+        (λ e. subst (Grows k) (sym e)
+        (rw (getD-set-same (d .taken) n (p + 1) 0 (rw lt n8), add-one p, eq-eqb n n refl)
+        (entries-on (d .order) place (entered standing′ claim n k) p ∙ rw (joins k, before-same k n))))
+        (λ z. rw (getD-set-other (d .taken) n m (p + 1) 0 z, ne-eqb m n z) (before-same k m))
+
+    -- the node finds t invalid, if b, and its verdict is v
+    pub take-steps : (value seen mark content wct failed : List ℕ) (b : Bool) (v : Verdict) → n < d .nodes → b ≡ finds-invalid (view d [] seen [] claim standing [] wct no-tally) n t
+        → verdict-of v ≡ rules.verdict b → _≡_ {A = ℕ → Bool} (λ j. set? (getD failed j 0)) (upd (λ j. set? (getD (d .failed) j 0)) t (set? (getD (d .failed) t 0) || b))
+        → Steps (view d value seen mark claim standing content wct) (Take n) (view (took d failed n) value seen mark claim standing′ content wct) (Took t v)
+    take-steps value seen mark content wct failed b v ln eb ev ef =
+        let nx : getD (take (d .placed) (d .order)) p 0 ≡ t = getD-take (d .placed) (d .order) p 0 h in
+        accepted
+        (λ tally. rw (lt-ltb n (d .nodes) ln, order-length d lo ready, lt-ltb p (d .placed) h))
+        (λ tally. rw nx
+        (same-state refl refl (fun-ext (λ k. grows k (getD (d .owner) k 0))) refl refl refl refl (ef ∙ rw eb) refl refl refl
+        (view-set (λ x. x) (d .taken) n (p + 1) (rw lt n8) ∙ rw add-one) refl))
+        (λ tally. rw (nx, ev, eb))
+
+-- the failed mark of an invalid save, and of a valid one
+pub failed-set : (l : List ℕ) (t : ℕ) → t < length l → _≡_ {A = ℕ → Bool} (λ j. set? (getD (set l t 1) j 0)) (upd (λ j. set? (getD l j 0)) t (set? (getD l t 0) || true))
+failed-set l t h = rw or-true (view-set set? l t 1 h)
+
+pub failed-keep : (l : List ℕ) (t : ℕ) → _≡_ {A = ℕ → Bool} (λ j. set? (getD l j 0)) (upd (λ j. set? (getD l j 0)) t (set? (getD l t 0) || false))
+failed-keep l t = upd-by (λ j. set? (getD l j 0)) (λ j. set? (getD l j 0)) t (set? (getD l t 0) || false) (sym (or-false (set? (getD l t 0)))) (λ j n. refl)

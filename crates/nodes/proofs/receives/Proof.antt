@@ -1,0 +1,17 @@
+-- The three tests in turn.
+use borrow.Author.Tests.{eq-eqb, ne-eqb}
+use borrow.Author.Needs.{needs}
+use Rattle.nodes.proofs.receives.Statement.{statement}
+use Rattle.nodes.proofs.receives.Tie as tie
+
+returns : tie.Need-returns
+returns c = simp (ne-eqb _ _ (c .if1 .taken))
+
+returns-2 : tie.Need-returns-2
+returns-2 c = simp (eq-eqb _ _ (c .before .if1 .left), ne-eqb _ _ (c .if2 .taken))
+
+returns-3 : tie.Need-returns-3
+returns-3 c = simp (eq-eqb _ _ (c .before .if1 .left), eq-eqb _ _ (c .if2 .left))
+
+pub receives-spec : {M : Type 1} → statement M
+receives-spec = tie.close (tie.spec returns returns-2 returns-3)

@@ -1,0 +1,153 @@
+// The commands at a node: TAKE and APPLY. Each does what its rule says.
+ghost use Prim.Native.Nat.{ℕ, _+_, _*_, _<_, _≤_};
+ghost use mathlib.Core.Path.{_≡_};
+ghost use mathlib.Core.Bool.{_&&_, cond};
+ghost use mathlib.Core.List.{List};
+ghost use lib.ListN.{length};
+ghost use lib.Dec.{eqb, leb};
+ghost use Rattle.rules.specs.Bytes.{Take, Apply};
+ghost use Rattle.state.specs.View.{view, Steps};
+ghost use Rattle.state.specs.Fill.{fill};
+ghost use Rattle.state.specs.Ready.{Ready, Rising};
+ghost use Rattle.nodes.specs.Carry.{contents, wcts};
+use state::Answer;
+use state::Control;
+use state::Stepped;
+use state::Verdict;
+
+// Node n takes the next save of the order.
+pub fn take(
+    mut d: Control,
+    seen: &[u32; 2048],
+    claim: &[u8; 2048],
+    standing: &mut [u8; 256],
+    wct: &[u32; 64],
+    n: u8,
+) -> Stepped
+    requires { ⌜ Ready d × (length (now standing) ≡ 256) ⌝ }
+    ensures { λ r. ⌜ ((value mark content : List ℕ) → Steps (view d value (now (seen .entry)) mark (now (claim .entry)) (now (standing .entry)) content (now (wct .entry))) (Take n) (view (r .control) value (now (seen .entry)) mark (now (claim .entry)) (now (standing .exit)) content (now (wct .entry))) (r .answer)) ⌝ }
+    ensures kept { λ r. ⌜ (length (now (standing .exit)) ≡ 256) × (r .control .placed ≤ 32) ⌝ }
+{
+    if d.nodes <= n {
+        return Stepped {
+            answer: Answer::Refused(4),
+            control: d,
+        };
+    }
+    let ni = n as usize;
+    let p = d.taken[ni];
+    if d.placed <= p {
+        return Stepped {
+            answer: Answer::Refused(9),
+            control: d,
+        };
+    }
+    let pi = p as usize;
+    let t = d.order[pi];
+    let ti = t as usize;
+    let b = sheets::finds_invalid(d, seen, claim, standing, wct, n, t);
+    standing[ni * 32 + ti] = 1;
+    d.taken[ni] = p + 1;
+    if b {
+        d.failed[ti] = 1;
+        return Stepped {
+            answer: Answer::Took(t, Verdict::Invalid),
+            control: d,
+        };
+    }
+    Stepped {
+        answer: Answer::Took(t, Verdict::Valid),
+        control: d,
+    }
+}
+
+// A sheet of owner o receives the content at node n: the save's phase is p and its mark there m.
+fn receives(o: u8, n: u8, p: u8, m: u8) -> bool
+    ensures { λ r. ⌜ r ≡ (eqb o n && (eqb p 4 && leb 2 m)) ⌝ }
+{
+    if o != n {
+        return false;
+    }
+    if p != 4 {
+        return false;
+    }
+    2 <= m
+}
+
+fn pick(b: bool, v: u32, w: u32) -> u32
+    ensures { λ r. ⌜ r ≡ cond b v w ⌝ }
+{
+    if b { v } else { w }
+}
+
+fn raise(b: bool, w: u32) -> u32
+    requires { ⌜ w < 4294967295 ⌝ }
+    ensures { λ r. ⌜ r ≡ cond b (w + 1) w ⌝ }
+{
+    if b { w + 1 } else { w }
+}
+
+// The sheets of node n that save t wrote receive its contents, and their WCTs rise.
+fn carry_out(
+    d: Control,
+    value: &[u32; 2048],
+    mark: &[u8; 2048],
+    content: &mut [u32; 64],
+    wct: &mut [u32; 64],
+    n: u8,
+    t: usize,
+)
+    requires { ⌜ (t < 32) × Rising (now wct) ⌝ }
+    ensures contents { λ _. ⌜ now (content .exit) ≡ fill (contents d (now (value .entry)) (now (mark .entry)) (now (content .entry)) n t) 0 64 (now (content .entry)) ⌝ }
+    ensures wcts { λ _. ⌜ now (wct .exit) ≡ fill (wcts d (now (mark .entry)) (now (wct .entry)) n t) 0 64 (now (wct .entry)) ⌝ }
+{
+    let p = d.phase[t];
+    let mut k: usize = 0;
+    while k < 64 {
+        let o = d.owner[k];
+        let i = t * 64 + k;
+        let m = mark[i];
+        let g = receives(o, n, p, m);
+        let v = pick(g, value[i], content[k]);
+        let w = raise(g, wct[k]);
+        content[k] = v;
+        wct[k] = w;
+        k += 1;
+    }
+}
+
+// Node n carries out save t's outcome, and t's entries there go.
+pub fn apply(
+    d: Control,
+    value: &[u32; 2048],
+    mark: &[u8; 2048],
+    claim: &[u8; 2048],
+    standing: &mut [u8; 256],
+    content: &mut [u32; 64],
+    wct: &mut [u32; 64],
+    n: u8,
+    t: u8,
+) -> Answer
+    requires { ⌜ Ready d × (length (now standing) ≡ 256) × (length (now content) ≡ 64) × (length (now wct) ≡ 64) × Rising (now wct) ⌝ }
+    ensures { λ r. ⌜ ((seen : List ℕ) → Steps (view d (now (value .entry)) seen (now (mark .entry)) (now (claim .entry)) (now (standing .entry)) (now (content .entry)) (now (wct .entry))) (Apply n t) (view d (now (value .entry)) seen (now (mark .entry)) (now (claim .entry)) (now (standing .exit)) (now (content .exit)) (now (wct .exit))) r) ⌝ }
+    ensures kept { λ _. ⌜ (length (now (standing .exit)) ≡ 256) × (length (now (content .exit)) ≡ 64) × (length (now (wct .exit)) ≡ 64) ⌝ }
+{
+    if d.nodes <= n {
+        return Answer::Refused(4);
+    }
+    if 32 <= t {
+        return Answer::Refused(4);
+    }
+    let ti = t as usize;
+    let p = d.phase[ti];
+    if p < 4 {
+        return Answer::Refused(5);
+    }
+    let h = sheets::has_entry(d, claim, standing, n, t);
+    if h {
+        carry_out(d, value, mark, content, wct, n, ti);
+        standing[(n as usize) * 32 + ti] = 0;
+        return Answer::Accepted;
+    }
+    Answer::Refused(11)
+}

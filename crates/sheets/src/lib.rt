@@ -1,0 +1,185 @@
+// The tests that commands make at every sheet: what TAKE finds, what DECIDE asks, where APPLY finds an entry.
+// A contract names the rules' test at the view; the tables that a test does not read are [] there.
+ghost use Prim.Native.Nat.{ℕ, _+_, _*_, _<_, _≤_};
+ghost use mathlib.Core.Path.{_≡_};
+ghost use mathlib.Core.Bool.{_&&_, _||_, not};
+ghost use mathlib.Core.List.{[]};
+ghost use lib.ListN.{getD};
+ghost use lib.Dec.{eqb, ltb};
+ghost use Rattle.rules.specs.Table.{all, any};
+ghost use Rattle.rules.specs.State.{claims};
+ghost use Rattle.rules.specs.Steps.{holds, x-on, granted, has-taken, finds-invalid, has-entry};
+ghost use Rattle.state.specs.Places.{at};
+ghost use Rattle.state.specs.View.{set?, flat, claim-in, queue-in, view, no-tally};
+ghost use Rattle.state.specs.Ready.{Once, Ready};
+ghost use Rattle.queues.specs.Walk.{Walk};
+use state::Control;
+
+// Node n, which owns sheet k if o is n, finds save t invalid there.
+fn fails_at(
+    order: &[u8; 32],
+    seen: &[u32; 2048],
+    claim: &[u8; 2048],
+    standing: &[u8; 256],
+    wct: &[u32; 64],
+    o: u8,
+    n: u8,
+    upto: usize,
+    t: u8,
+    k: usize,
+) -> bool
+    requires { ⌜ Walk (now order) n k upto × (t < 32) ⌝ }
+    ensures { λ r. ⌜ ((place : ℕ → ℕ) → Once (now (order .entry)) place upto → r ≡ (eqb o n && (claims (claim-in (now (claim .entry)) t k) && (holds (x-on (claim-in (now (claim .entry))) k) (queue-in (now (order .entry)) place (now (standing .entry)) (now (claim .entry)) n k upto) || ltb (flat (now (seen .entry)) t k) (getD (now (wct .entry)) k 0))))) ⌝ }
+{
+    if o != n {
+        return false;
+    }
+    let i = (t as usize) * 64 + k;
+    let c = claim[i];
+    if c == 0 {
+        return false;
+    }
+    let s = seen[i];
+    let w = wct[k];
+    if s < w {
+        return true;
+    }
+    queues::holds_x(order, standing, claim, n as usize, k, upto)
+}
+
+// TAKE: node n finds save t invalid at one of its sheets.
+pub fn finds_invalid(
+    d: Control,
+    seen: &[u32; 2048],
+    claim: &[u8; 2048],
+    standing: &[u8; 256],
+    wct: &[u32; 64],
+    n: u8,
+    t: u8,
+) -> bool
+    requires { ⌜ Ready d × (n < 8) × (t < 32) ⌝ }
+    ensures { λ r. ⌜ r ≡ finds-invalid (view d [] (now (seen .entry)) [] (now (claim .entry)) (now (standing .entry)) [] (now (wct .entry)) no-tally) n t ⌝ }
+{
+    let ni = n as usize;
+    let upto = d.taken[ni] as usize;
+    let mut k = d.sheets as usize;
+    while 0 < k {
+        k -= 1;
+        let o = d.owner[k];
+        let b = fails_at(&d.order, seen, claim, standing, wct, o, n, upto, t, k);
+        if b {
+            return true;
+        }
+    }
+    false
+}
+
+// A save of place p with claim c on a sheet has been taken by its node, which has taken m places; or it claims nothing.
+fn taken_at(c: u8, p: u8, m: u8) -> bool
+    ensures { λ r. ⌜ r ≡ (not (set? c) || ltb p m) ⌝ }
+{
+    if c == 0 {
+        return true;
+    }
+    p < m
+}
+
+// DECIDE: save t was taken by every node that owns a claimed sheet.
+pub fn all_taken(d: Control, claim: &[u8; 2048], t: u8) -> bool
+    requires { ⌜ Ready d × (t < 32) ⌝ }
+    ensures { λ r. ⌜ r ≡ all (d .sheets) (λ k. not (claims (claim-in (now (claim .entry)) t k)) || has-taken (view d [] [] [] (now (claim .entry)) [] [] [] no-tally) (getD (d .owner) k 0) t) ⌝ }
+{
+    let ti = t as usize;
+    let p = d.place[ti];
+    let mut k = d.sheets as usize;
+    while 0 < k {
+        k -= 1;
+        let o = d.owner[k] as usize;
+        let m = d.taken[o];
+        let c = claim[ti * 64 + k];
+        let h = taken_at(c, p, m);
+        if h {} else {
+            return false;
+        }
+    }
+    true
+}
+
+// DECIDE: save t's entries are granted.
+pub fn all_granted(d: Control, claim: &[u8; 2048], standing: &[u8; 256], t: u8) -> bool
+    requires { ⌜ Ready d × (t < 32) ⌝ }
+    ensures { λ r. ⌜ r ≡ all (d .sheets) (λ k. granted (view d [] [] [] (now (claim .entry)) (now (standing .entry)) [] [] no-tally) t k) ⌝ }
+{
+    let mut k = d.sheets as usize;
+    while 0 < k {
+        k -= 1;
+        let n = d.owner[k] as usize;
+        let upto = d.taken[n] as usize;
+        let g = queues::granted_at(&d.order, standing, claim, n, k, upto, t);
+        if g {} else {
+            return false;
+        }
+    }
+    true
+}
+
+// Save t, of place q, is one of the first `upto`, and stands at node n.
+fn stands(order: &[u8; 32], standing: &[u8; 256], n: usize, upto: usize, t: u8, q: usize) -> bool
+    requires { ⌜ (n < 8) × (t < 32) × (upto ≤ 32) ⌝ }
+    ensures { λ r. ⌜ r ≡ (set? (getD (now (standing .entry)) (n * 32 + t) 0) && (ltb q upto && eqb (at (now (order .entry)) q) t)) ⌝ }
+{
+    let e = standing[n * 32 + (t as usize)];
+    if e == 0 {
+        return false;
+    }
+    if upto <= q {
+        return false;
+    }
+    let u = order[q];
+    u == t
+}
+
+// Node n owns the sheet, if o is n, and the claim on it is c.
+fn claimed_here(o: u8, n: u8, c: u8) -> bool
+    ensures { λ r. ⌜ r ≡ (eqb o n && set? c) ⌝ }
+{
+    if o != n {
+        return false;
+    }
+    c != 0
+}
+
+// Save t claims a sheet of node n.
+fn claims_here(d: Control, claim: &[u8; 2048], n: u8, t: u8) -> bool
+    requires { ⌜ Ready d × (t < 32) ⌝ }
+    ensures { λ r. ⌜ r ≡ any (d .sheets) (λ k. eqb (getD (d .owner) k 0) n && claims (claim-in (now (claim .entry)) t k)) ⌝ }
+{
+    let ti = t as usize;
+    let mut k = d.sheets as usize;
+    while 0 < k {
+        k -= 1;
+        let o = d.owner[k];
+        let c = claim[ti * 64 + k];
+        let h = claimed_here(o, n, c);
+        if h {
+            return true;
+        }
+    }
+    false
+}
+
+// APPLY: save t has an entry at node n.
+pub fn has_entry(d: Control, claim: &[u8; 2048], standing: &[u8; 256], n: u8, t: u8) -> bool
+    requires { ⌜ Ready d × (n < 8) × (t < 32) ⌝ }
+    ensures { λ r. ⌜ r ≡ has-entry (view d [] [] [] (now (claim .entry)) (now (standing .entry)) [] [] no-tally) n t ⌝ }
+{
+    let ni = n as usize;
+    let ti = t as usize;
+    let upto = d.taken[ni] as usize;
+    let q = d.place[ti] as usize;
+    let s = stands(&d.order, standing, ni, upto, t, q);
+    if s {
+        return claims_here(d, claim, n, t);
+    }
+    false
+}
