@@ -1,0 +1,4 @@
+pub mod Phases
+pub mod Copies
+pub mod Order
+pub mod Decisions

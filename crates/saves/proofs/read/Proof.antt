@@ -1,0 +1,168 @@
+-- A refusal for each test, and the answer from an own copy or from a new one.
+use mathlib.Core.Path.{_≡_, sym, _∙_}
+use native.Mathlib.Omega.{arith}
+use lib.ListN.{getD, length-set}
+use borrow.Author.Tests.{lt-ltb, le-ltb, not-true, not-false}
+use Rattle.state.proofs.Steps.{refused}
+use Rattle.queues.proofs.Taken.{walk-taken, once-taken}
+use Rattle.saves.proofs.Copies.{read-5, read-8, read-own, read-6, read-new}
+use borrow.Author.Needs.{needs}
+use Rattle.saves.proofs.read.Statement.{statement}
+use Rattle.saves.proofs.read.Tie as tie
+
+returns : tie.Need-returns
+returns c = (refused (λ tally. simp (le-ltb _ _ (c .if1 .taken))), search needs)
+
+returns-2 : tie.Need-returns-2
+returns-2 c = (refused (λ tally. simp (lt-ltb _ _ (c .before .if1 .left), le-ltb _ _ (c .if2 .taken))), search needs)
+
+mul-i : tie.Need-mul-i
+mul-i c = search needs
+
+add-i : tie.Need-add-i
+add-i c = search needs
+
+element-copy-out-p : tie.Need-element-copy-out-p
+element-copy-out-p c = search needs
+
+running-requires : tie.Need-running-requires
+running-requires c κs = search needs
+
+returns-3 : tie.Need-returns-3
+returns-3 c =
+    let s = c .before .before .before .before .before in
+    let a = s .args in (
+      read-5 (a .t1) (a .value .now) (a .seen .now) (a .mark .now) (a .claim .now) (a .standing .now) (a .content .now) (a .wct .now) (a .t) (a .k) (c .before .before .before .before .if1 .left) (c .before .before .before .if2 .left) (s .pre .0)
+          (sym (c .before .running .ensures) ∙ not-true _ (c .if3 .taken)),
+      search needs,
+    )
+
+element-copy-out-c : tie.Need-element-copy-out-c
+element-copy-out-c c = search needs
+
+readable-requires : tie.Need-readable-requires
+readable-requires c κs = search needs
+
+returns-4 : tie.Need-returns-4
+returns-4 c =
+    let s = c .before .before .before .before .before .before .before .before in
+    let a = s .args in (
+      read-8 (a .t1) (a .value .now) (a .seen .now) (a .mark .now) (a .claim .now) (a .standing .now) (a .content .now) (a .wct .now) (a .t) (a .k) (c .before .before .before .before .before .before .before .if1 .left) (c .before .before .before .before .before .before .if2 .left) (s .pre .0)
+          (sym (c .before .before .before .before .running .ensures) ∙ not-false _ (c .before .before .before .if3 .left)) (sym (c .before .readable .ensures) ∙ not-true _ (c .if4 .taken)),
+      search needs,
+    )
+
+element-copy-out-m : tie.Need-element-copy-out-m
+element-copy-out-m c = search needs
+
+mul-v : tie.Need-mul-v
+mul-v c = search needs
+
+element-copy-out-v : tie.Need-element-copy-out-v
+element-copy-out-v c = search needs
+
+returns-5 : tie.Need-returns-5
+returns-5 c =
+    let s = c .before .before .before .before .before .before .before .before .before .before .before in
+    let a = s .args in (
+      read-own (a .t1) (a .value .now) (a .seen .now) (a .mark .now) (a .claim .now) (a .standing .now) (a .content .now) (a .wct .now) (a .t) (a .k) (c .before .before .before .before .before .before .before .before .before .before .if1 .left) (c .before .before .before .before .before .before .before .before .before .if2 .left) (s .pre .0)
+          (sym (c .before .before .before .before .before .before .before .running .ensures) ∙ not-false _ (c .before .before .before .before .before .before .if3 .left)) (sym (c .before .before .before .before .readable .ensures) ∙ not-false _ (c .before .before .before .if4 .left)) (c .before .if5 .taken),
+      search needs,
+    )
+
+element-copy-out-n : tie.Need-element-copy-out-n
+element-copy-out-n c = search needs
+
+cast-n : tie.Need-cast-n
+cast-n c = omega (arith, c .before .before .before .before .before .before .before .before .before .before .before .pre .0 .owners (c .before .before .before .before .before .before .before .before .before .before .before .args .k))
+
+element-copy-out-upto : tie.Need-element-copy-out-upto
+element-copy-out-upto c = omega (arith, c .before .before .before .before .before .before .before .before .before .before .before .pre .0 .owners (c .before .before .before .before .before .before .before .before .before .before .before .args .k))
+
+cast-upto : tie.Need-cast-upto
+cast-upto c = omega (arith, c .before .before .before .before .before .before .before .before .before .before .before .before .pre .0 .takens (getD (c .before .before .before .before .before .before .before .before .before .before .before .before .args .t1 .owner) (c .before .before .before .before .before .before .before .before .before .before .before .before .args .k) 0), c .before .before .before .before .before .before .before .before .before .before .before .before .pre .0 .fits)
+
+blocked-requires : tie.Need-blocked-requires
+blocked-requires c κs =
+    let s = c .before .before .before .before .before .before .before .before .before .before .before .before .before .before in
+    walk-taken (s .args .t1) (s .pre .0) (getD (s .args .t1 .owner) (s .args .k) 0) (s .args .k) (s .pre .0 .owners (s .args .k)) (omega (arith, c .before .before .before .before .before .before .before .before .before .before .before .before .if2 .left, s .pre .0 .sheets64))
+
+returns-6 : tie.Need-returns-6
+returns-6 c =
+    let s = c .before .before .before .before .before .before .before .before .before .before .before .before .before .before .before .before in
+    let a = s .args in (
+      read-6 (a .t1) (a .value .now) (a .seen .now) (a .mark .now) (a .claim .now) (a .standing .now) (a .content .now) (a .wct .now) (a .t) (a .k) (c .before .before .before .before .before .before .before .before .before .before .before .before .before .before .before .if1 .left) (c .before .before .before .before .before .before .before .before .before .before .before .before .before .before .if2 .left) (s .pre .0)
+          (sym (c .before .before .before .before .before .before .before .before .before .before .before .before .running .ensures) ∙ not-false _ (c .before .before .before .before .before .before .before .before .before .before .before .if3 .left)) (sym (c .before .before .before .before .before .before .before .before .before .readable .ensures) ∙ not-false _ (c .before .before .before .before .before .before .before .before .if4 .left)) (c .before .before .before .before .before .before .if5 .left) (sym (c .before .blocked .ensures (λ u. getD (a .t1 .place) u 0) (once-taken (a .t1) (s .pre .0) (getD (a .t1 .owner) (a .k) 0))) ∙ c .if6 .taken),
+      search needs,
+    )
+
+mul-x : tie.Need-mul-x
+mul-x c = search needs
+
+element-copy-out-x : tie.Need-element-copy-out-x
+element-copy-out-x c = search needs
+
+mul-y : tie.Need-mul-y
+mul-y c = search needs
+
+element-copy-out-y : tie.Need-element-copy-out-y
+element-copy-out-y c = search needs
+
+mul-value : tie.Need-mul-value
+mul-value c = search needs
+
+element-write-value : tie.Need-element-write-value
+element-write-value c = search needs
+
+mul-seen : tie.Need-mul-seen
+mul-seen c = search needs
+
+element-write-seen : tie.Need-element-write-seen
+element-write-seen c = search needs
+
+element-write-mark : tie.Need-element-write-mark
+element-write-mark c = search needs
+
+returns-7 : tie.Need-returns-7
+returns-7 c =
+    let s = c .before .before .before .before .before .before .before .before .before .before .before .before .before .before .before .before .before .before in
+    let a = s .args in (
+      read-new (a .t1) (a .value .now) (a .seen .now) (a .mark .now) (a .claim .now) (a .standing .now) (a .content .now) (a .wct .now) (a .t) (a .k) (c .before .before .before .before .before .before .before .before .before .before .before .before .before .before .before .before .before .if1 .left) (c .before .before .before .before .before .before .before .before .before .before .before .before .before .before .before .before .if2 .left) (s .pre .0)
+          (sym (c .before .before .before .before .before .before .before .before .before .before .before .before .before .before .running .ensures) ∙ not-false _ (c .before .before .before .before .before .before .before .before .before .before .before .before .before .if3 .left)) (sym (c .before .before .before .before .before .before .before .before .before .before .before .readable .ensures) ∙ not-false _ (c .before .before .before .before .before .before .before .before .before .before .if4 .left)) (c .before .before .before .before .before .before .before .before .if5 .left) (sym (c .before .before .before .blocked .ensures (λ u. getD (a .t1 .place) u 0) (once-taken (a .t1) (s .pre .0) (getD (a .t1 .owner) (a .k) 0))) ∙ c .before .before .if6 .left) (s .pre .1) (s .pre .2) (s .pre .3),
+      (rw length-set (s .pre .1), rw length-set (s .pre .2), rw length-set (s .pre .3)),
+    )
+
+pub read-spec : {M : Type 1} → statement M
+read-spec =
+    tie.close
+    (tie.spec
+    returns
+    returns-2
+    mul-i
+    add-i
+    element-copy-out-p
+    running-requires
+    returns-3
+    element-copy-out-c
+    readable-requires
+    returns-4
+    element-copy-out-m
+    mul-v
+    element-copy-out-v
+    returns-5
+    element-copy-out-n
+    cast-n
+    element-copy-out-upto
+    cast-upto
+    blocked-requires
+    returns-6
+    mul-x
+    element-copy-out-x
+    mul-y
+    element-copy-out-y
+    mul-value
+    element-write-value
+    mul-seen
+    element-write-seen
+    element-write-mark
+    returns-7)

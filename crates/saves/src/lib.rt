@@ -1,0 +1,349 @@
+// The commands of a save: BEGIN, READ, WRITE, SUBMIT, DECIDE and GIVE UP. Each does what its rule says.
+ghost use Prim.Native.Nat.{ℕ, _+_, _*_, _<_, _≤_};
+ghost use mathlib.Core.Path.{_≡_};
+ghost use mathlib.Core.Bool.{_&&_, _||_, not};
+ghost use mathlib.Core.List.{List, []};
+ghost use lib.ListN.{getD, length};
+ghost use lib.Dec.{eqb, leb};
+ghost use Rattle.rules.specs.Bytes.{Begin, Read, Write, Submit, Decide, GiveUp};
+ghost use Rattle.rules.specs.Table.{all};
+ghost use Rattle.rules.specs.State.{claims};
+ghost use Rattle.rules.specs.Steps.{at-front, x-on, has-taken, granted};
+ghost use Rattle.state.specs.View.{set?, claim-in, queue-in, view, no-tally, Steps};
+ghost use Rattle.state.specs.Fill.{fill};
+ghost use Rattle.state.specs.Ready.{Once, Ready};
+ghost use Rattle.queues.specs.Walk.{Walk};
+use state::Answer;
+use state::Control;
+use state::Stepped;
+
+// A save of phase p is in its first or second run.
+fn running(p: u8) -> bool
+    ensures { λ r. ⌜ r ≡ (eqb p 1 || eqb p 3) ⌝ }
+{
+    if p == 1 {
+        return true;
+    }
+    p == 3
+}
+
+// An unused save enters its first run.
+pub fn begin(mut d: Control, t: u8) -> Stepped
+    requires { ⌜ Ready d ⌝ }
+    ensures { λ r. ⌜ ((value seen mark claim standing content wct : List ℕ) → Steps (view d value seen mark claim standing content wct) (Begin t) (view (r .control) value seen mark claim standing content wct) (r .answer)) ⌝ }
+    ensures kept { λ r. ⌜ r .control .placed ≤ 32 ⌝ }
+{
+    if 32 <= t {
+        return Stepped {
+            answer: Answer::Refused(4),
+            control: d,
+        };
+    }
+    let ti = t as usize;
+    let p = d.phase[ti];
+    if p != 0 {
+        return Stepped {
+            answer: Answer::Refused(5),
+            control: d,
+        };
+    }
+    let r = d.runs[ti];
+    d.phase[ti] = 1;
+    d.runs[ti] = r + 1;
+    Stepped {
+        answer: Answer::Accepted,
+        control: d,
+    }
+}
+
+// A running save is dropped.
+pub fn give_up(mut d: Control, t: u8) -> Stepped
+    requires { ⌜ Ready d ⌝ }
+    ensures { λ r. ⌜ ((value seen mark claim standing content wct : List ℕ) → Steps (view d value seen mark claim standing content wct) (GiveUp t) (view (r .control) value seen mark claim standing content wct) (r .answer)) ⌝ }
+    ensures kept { λ r. ⌜ r .control .placed ≤ 32 ⌝ }
+{
+    if 32 <= t {
+        return Stepped {
+            answer: Answer::Refused(4),
+            control: d,
+        };
+    }
+    let ti = t as usize;
+    let p = d.phase[ti];
+    let run = running(p);
+    if !run {
+        return Stepped {
+            answer: Answer::Refused(5),
+            control: d,
+        };
+    }
+    d.phase[ti] = 5;
+    Stepped {
+        answer: Answer::Accepted,
+        control: d,
+    }
+}
+
+// In the first run any sheet is open to READ, in the second one that is claimed.
+fn readable(p: u8, c: u8) -> bool
+    ensures { λ r. ⌜ r ≡ (eqb p 1 || set? c) ⌝ }
+{
+    if p == 1 {
+        return true;
+    }
+    c != 0
+}
+
+// In the first run any sheet is open to WRITE, in the second one that is X in the claim.
+fn writable(p: u8, c: u8) -> bool
+    ensures { λ r. ⌜ r ≡ (eqb p 1 || leb 2 c) ⌝ }
+{
+    if p == 1 {
+        return true;
+    }
+    2 <= c
+}
+
+// A save of phase p is in its first run, and finds an X at the front of sheet k's queue.
+fn blocked(
+    order: &[u8; 32],
+    standing: &[u8; 256],
+    claim: &[u8; 2048],
+    n: usize,
+    k: usize,
+    upto: usize,
+    p: u8,
+) -> bool
+    requires { ⌜ Walk (now order) n k upto ⌝ }
+    ensures { λ r. ⌜ ((place : ℕ → ℕ) → Once (now (order .entry)) place upto → r ≡ (not (eqb p 3) && at-front (x-on (claim-in (now (claim .entry))) k) (queue-in (now (order .entry)) place (now (standing .entry)) (now (claim .entry)) n k upto))) ⌝ }
+{
+    if p == 3 {
+        return false;
+    }
+    queues::front_x(order, standing, claim, n, k, upto)
+}
+
+// A save is answered from its own copy of the sheet, which is made first where it has none.
+pub fn read(
+    d: Control,
+    value: &mut [u32; 2048],
+    seen: &mut [u32; 2048],
+    mark: &mut [u8; 2048],
+    claim: &[u8; 2048],
+    standing: &[u8; 256],
+    content: &[u32; 64],
+    wct: &[u32; 64],
+    t: u8,
+    k: u8,
+) -> Answer
+    requires { ⌜ Ready d × (length (now value) ≡ 2048) × (length (now seen) ≡ 2048) × (length (now mark) ≡ 2048) ⌝ }
+    ensures { λ r. ⌜ Steps (view d (now (value .entry)) (now (seen .entry)) (now (mark .entry)) (now (claim .entry)) (now (standing .entry)) (now (content .entry)) (now (wct .entry))) (Read t k) (view d (now (value .exit)) (now (seen .exit)) (now (mark .exit)) (now (claim .entry)) (now (standing .entry)) (now (content .entry)) (now (wct .entry))) r ⌝ }
+    ensures kept { λ _. ⌜ (length (now (value .exit)) ≡ 2048) × (length (now (seen .exit)) ≡ 2048) × (length (now (mark .exit)) ≡ 2048) ⌝ }
+{
+    if 32 <= t {
+        return Answer::Refused(4);
+    }
+    if d.sheets <= k {
+        return Answer::Refused(4);
+    }
+    let ti = t as usize;
+    let ki = k as usize;
+    let i = ti * 64 + ki;
+    let p = d.phase[ti];
+    let run = running(p);
+    if !run {
+        return Answer::Refused(5);
+    }
+    let c = claim[i];
+    let open = readable(p, c);
+    if !open {
+        return Answer::Refused(8);
+    }
+    let m = mark[i];
+    if m != 0 {
+        let v = value[i];
+        return Answer::Content(v);
+    }
+    let n = d.owner[ki] as usize;
+    let upto = d.taken[n] as usize;
+    let b = blocked(&d.order, standing, claim, n, ki, upto, p);
+    if b {
+        return Answer::Refused(6);
+    }
+    let x = content[ki];
+    let y = wct[ki];
+    value[i] = x;
+    seen[i] = y;
+    mark[i] = 1;
+    Answer::Content(x)
+}
+
+// The save's own copy of the sheet is changed.
+pub fn write(
+    d: Control,
+    value: &mut [u32; 2048],
+    mark: &mut [u8; 2048],
+    claim: &[u8; 2048],
+    t: u8,
+    k: u8,
+    v: u32,
+) -> Answer
+    requires { ⌜ Ready d × (length (now value) ≡ 2048) × (length (now mark) ≡ 2048) ⌝ }
+    ensures { λ r. ⌜ ((seen standing content wct : List ℕ) → Steps (view d (now (value .entry)) seen (now (mark .entry)) (now (claim .entry)) standing content wct) (Write t k v) (view d (now (value .exit)) seen (now (mark .exit)) (now (claim .entry)) standing content wct) r) ⌝ }
+    ensures kept { λ _. ⌜ (length (now (value .exit)) ≡ 2048) × (length (now (mark .exit)) ≡ 2048) ⌝ }
+{
+    if 32 <= t {
+        return Answer::Refused(4);
+    }
+    if d.sheets <= k {
+        return Answer::Refused(4);
+    }
+    let ti = t as usize;
+    let ki = k as usize;
+    let i = ti * 64 + ki;
+    let p = d.phase[ti];
+    let run = running(p);
+    if !run {
+        return Answer::Refused(5);
+    }
+    let c = claim[i];
+    let open = writable(p, c);
+    if !open {
+        return Answer::Refused(8);
+    }
+    let m = mark[i];
+    if m == 0 {
+        return Answer::Refused(7);
+    }
+    value[i] = v;
+    mark[i] = 2;
+    Answer::Accepted
+}
+
+// Save t's marks become its claim: a copy is an S, a written one an X.
+fn claim_row(claim: &mut [u8; 2048], mark: &[u8; 2048], t: usize)
+    requires { ⌜ t < 32 ⌝ }
+    ensures { λ _. ⌜ now (claim .exit) ≡ fill (λ j. getD (now (mark .entry)) (t * 64 + j) 0) (t * 64) 64 (now (claim .entry)) ⌝ }
+{
+    let mut k: usize = 0;
+    while k < 64 {
+        let m = mark[t * 64 + k];
+        claim[t * 64 + k] = m;
+        k += 1;
+    }
+}
+
+// First run: the save joins the end of the order with its claim. Second run: it is committed.
+pub fn submit(mut d: Control, mark: &[u8; 2048], claim: &mut [u8; 2048], t: u8) -> Stepped
+    requires { ⌜ Ready d × (length (now claim) ≡ 2048) ⌝ }
+    ensures { λ r. ⌜ ((value seen standing content wct : List ℕ) → Steps (view d value seen (now (mark .entry)) (now (claim .entry)) standing content wct) (Submit t) (view (r .control) value seen (now (mark .entry)) (now (claim .exit)) standing content wct) (r .answer)) ⌝ }
+    ensures kept { λ r. ⌜ (length (now (claim .exit)) ≡ 2048) × (r .control .placed ≤ 32) ⌝ }
+{
+    if 32 <= t {
+        return Stepped {
+            answer: Answer::Refused(4),
+            control: d,
+        };
+    }
+    let ti = t as usize;
+    let p = d.phase[ti];
+    if p == 1 {
+        claim_row(claim, mark, ti);
+        let at = d.placed;
+        let ai = at as usize;
+        d.phase[ti] = 2;
+        d.order[ai] = t;
+        d.place[ti] = at;
+        d.placed = at + 1;
+        return Stepped {
+            answer: Answer::Accepted,
+            control: d,
+        };
+    }
+    if p == 3 {
+        d.phase[ti] = 4;
+        return Stepped {
+            answer: Answer::Recommits,
+            control: d,
+        };
+    }
+    Stepped {
+        answer: Answer::Refused(5),
+        control: d,
+    }
+}
+
+// Save t has no copy any more.
+fn clear_row(mark: &mut [u8; 2048], t: usize)
+    requires { ⌜ t < 32 ⌝ }
+    ensures { λ _. ⌜ now (mark .exit) ≡ fill (λ j. 0) (t * 64) 64 (now (mark .entry)) ⌝ }
+{
+    let mut k: usize = 0;
+    while k < 64 {
+        mark[t * 64 + k] = 0;
+        k += 1;
+    }
+}
+
+// Save t was taken by every node that owns a claimed sheet, and its entries are granted.
+fn decidable(d: Control, claim: &[u8; 2048], standing: &[u8; 256], t: u8) -> bool
+    requires { ⌜ Ready d × (t < 32) ⌝ }
+    ensures { λ r. ⌜ r ≡ (all (d .sheets) (λ k. not (claims (claim-in (now (claim .entry)) t k)) || has-taken (view d [] [] [] (now (claim .entry)) [] [] [] no-tally) (getD (d .owner) k 0) t) && all (d .sheets) (λ k. granted (view d [] [] [] (now (claim .entry)) (now (standing .entry)) [] [] no-tally) t k)) ⌝ }
+{
+    let h = sheets::all_taken(d, claim, t);
+    if !h {
+        return false;
+    }
+    sheets::all_granted(d, claim, standing, t)
+}
+
+// A save that did not fail is committed, a failed one enters its second run.
+pub fn decide(
+    mut d: Control,
+    mark: &mut [u8; 2048],
+    claim: &[u8; 2048],
+    standing: &[u8; 256],
+    t: u8,
+) -> Stepped
+    requires { ⌜ Ready d × (length (now mark) ≡ 2048) ⌝ }
+    ensures { λ r. ⌜ ((value seen content wct : List ℕ) → Steps (view d value seen (now (mark .entry)) (now (claim .entry)) (now (standing .entry)) content wct) (Decide t) (view (r .control) value seen (now (mark .exit)) (now (claim .entry)) (now (standing .entry)) content wct) (r .answer)) ⌝ }
+    ensures kept { λ r. ⌜ (length (now (mark .exit)) ≡ 2048) × (r .control .placed ≤ 32) ⌝ }
+{
+    if 32 <= t {
+        return Stepped {
+            answer: Answer::Refused(4),
+            control: d,
+        };
+    }
+    let ti = t as usize;
+    let p = d.phase[ti];
+    if p != 2 {
+        return Stepped {
+            answer: Answer::Refused(5),
+            control: d,
+        };
+    }
+    let g = decidable(d, claim, standing, t);
+    if !g {
+        return Stepped {
+            answer: Answer::Refused(10),
+            control: d,
+        };
+    }
+    let f = d.failed[ti];
+    if f == 0 {
+        d.phase[ti] = 4;
+        return Stepped {
+            answer: Answer::Commits,
+            control: d,
+        };
+    }
+    clear_row(mark, ti);
+    let r = d.runs[ti];
+    d.phase[ti] = 3;
+    d.runs[ti] = r + 1;
+    Stepped {
+        answer: Answer::SecondRun,
+        control: d,
+    }
+}
