@@ -1,3 +1,4 @@
 pub mod Loop
 pub mod Ready
 pub mod Turn
+pub mod Needs

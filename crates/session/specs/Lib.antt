@@ -1,2 +1,4 @@
 pub mod Meaning
 pub mod Going
+pub mod Looping
+pub mod Carried

@@ -1,8 +1,17 @@
 // The run over a whole session.
-use state::Answer;
-use state::Verdict;
 ghost use mathlib.Core.Path.{_≡_};
+ghost use lib.ListN.{length};
+ghost use Rattle.wire.specs.Meaning.{opened};
+ghost use Rattle.wire.specs.declared.Opened.the-variants.{Header};
 ghost use Rattle.session.specs.Meaning.{refusal-in, reply-to};
+ghost use Rattle.session.specs.Carried.{Carried};
+use state::Answer;
+use state::Control;
+use state::Session;
+use state::Stepped;
+use state::Verdict;
+use tally::Tally;
+use wire::Next;
 
 // Where a run stopped: at the session's end, or at a refusal with its offset, its number and the number of bytes shown.
 pub enum Stop {
@@ -49,4 +58,100 @@ fn told(a: Answer) -> Reply
         Answer::Recommits => Reply::Accepted,
         Answer::Refused(_) => Reply::NoCommand,
     }
+}
+
+// What a run comes to: the state at its end, the last accepted command's answer, and the stop.
+pub struct Ended {
+    pub control: Control,
+    pub content: [u32; Session::SHEETS],
+    pub wct: [u32; Session::SHEETS],
+    pub tally: Tally,
+    pub last: Reply,
+    pub stop: Stop,
+}
+
+fn closed(
+    control: Control,
+    content: [u32; Session::SHEETS],
+    wct: [u32; Session::SHEETS],
+    tally: Tally,
+    last: Reply,
+    stop: Stop,
+) -> Ended
+    ensures { λ r. ⌜ r ≡ record { control = control; content = content; wct = wct; tally = tally; last = last; stop = stop } ⌝ }
+{
+    Ended {
+        control: control,
+        content: content,
+        wct: wct,
+        tally: tally,
+        last: last,
+        stop: stop,
+    }
+}
+
+// The control after a step, with the length of its order, which a struct inside a struct does not tell.
+fn control_after(r: Stepped) -> Control
+    ensures { λ c. ⌜ (c ≡ r .control) × (length (c .order) ≡ 32) ⌝ }
+{
+    r.control
+}
+
+// Carries a session with this header through to its end or its first refusal. The large tables live here, and are lent to each step.
+pub fn run(session: &[u8], nodes: u8, sheets: u8) -> Ended
+    requires { ⌜ Header nodes sheets ≡ opened (now session) ⌝ }
+    ensures { λ r. ⌜ Carried (now (session .entry)) r ⌝ }
+{
+    let f = Session::fresh(nodes, sheets, wire::owners(session));
+    let mut d = f.control;
+    let mut value = f.value;
+    let mut seen = f.seen;
+    let mut mark = f.mark;
+    let mut claim = f.claim;
+    let mut standing = f.standing;
+    let mut content = f.content;
+    let mut wct = f.wct;
+    let mut tally = Tally::new();
+    let mut last = Reply::NoCommand;
+    let mut at: usize = 2 + sheets as usize;
+    while at < session.len() {
+        let next = wire::read_next(&session[at..]);
+        match next {
+            Next::Step(c, w) => {
+                let r = engine::step(
+                    d,
+                    &mut value,
+                    &mut seen,
+                    &mut mark,
+                    &mut claim,
+                    &mut standing,
+                    &mut content,
+                    &mut wct,
+                    c,
+                );
+                let a = r.answer;
+                let e = control_after(r);
+                d = e;
+                let n = refusal(a);
+                if n != 0 {
+                    return closed(d, content, wct, tally, last, Stop::Refused(at, n, 1 + w));
+                }
+                let t = tally.advanced(a);
+                tally = t;
+                last = told(a);
+                at = at + 1 + w;
+            }
+            Next::Unknown => return closed(d, content, wct, tally, last, Stop::Refused(at, 2, 1)),
+            Next::Cut => return closed(
+                d,
+                content,
+                wct,
+                tally,
+                last,
+                Stop::Refused(at, 3, session.len() - at),
+            ),
+            Next::End => return closed(d, content, wct, tally, last, Stop::End),
+        }
+    }
+    closed(d, content, wct, tally, last, Stop::End)
 }

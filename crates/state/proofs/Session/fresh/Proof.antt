@@ -3,7 +3,7 @@ use Prim.Native.Nat.{ℕ, zero, suc, _+_, _*_}
 use mathlib.Core.Path.{_≡_, refl, fun-ext}
 use mathlib.Core.Bool.{Bool, true, false, cond}
 use mathlib.Core.List.{List}
-use lib.ListN.{getD, replicate}
+use lib.ListN.{getD, replicate, length-replicate}
 use lib.Dec.{ltb}
 use Rattle.rules.specs.State.{fresh}
 use Rattle.state.specs.declared.Control.{Control}
@@ -50,20 +50,33 @@ module _ (d : Control) (value seen mark claim standing content wct : List ℕ) w
       refl
 
 returns : tie.Need-returns
-returns c =
-    fresh-view (record {
-      nodes = c .args .nodes;
-      sheets = c .args .sheets;
-      placed = 0;
-      owner = c .args .owner;
-      phase = replicate 32 0;
-      failed = replicate 32 0;
-      runs = replicate 32 0;
-      order = replicate 32 0;
-      place = replicate 32 0;
-      taken = replicate 8 0;
-    }) (replicate 2048 0) (replicate 2048 0) (replicate 2048 0) (replicate 2048 0) (replicate 256 0) (replicate 64 0) (replicate 64 0)
-    refl (zeros 32) (zeros 32) (zeros 32) (zeros 32) (zeros 8) (zeros 2048) (zeros 2048) (zeros 2048) (zeros 2048) (zeros 64) (zeros 64)
+returns c = (
+  fresh-view (record {
+    nodes = c .args .nodes;
+    sheets = c .args .sheets;
+    placed = 0;
+    owner = c .args .owner;
+    phase = replicate 32 0;
+    failed = replicate 32 0;
+    runs = replicate 32 0;
+    order = replicate 32 0;
+    place = replicate 32 0;
+    taken = replicate 8 0;
+  }) (replicate 2048 0) (replicate 2048 0) (replicate 2048 0) (replicate 2048 0) (replicate 256 0) (replicate 64 0) (replicate 64 0)
+      refl (zeros 32) (zeros 32) (zeros 32) (zeros 32) (zeros 8) (zeros 2048) (zeros 2048) (zeros 2048) (zeros 2048) (zeros 64) (zeros 64),
+  (
+    length-replicate {A = ℕ} 32 0,
+    record {
+      value = length-replicate {A = ℕ} 2048 0;
+      seen = length-replicate {A = ℕ} 2048 0;
+      mark = length-replicate {A = ℕ} 2048 0;
+      claim = length-replicate {A = ℕ} 2048 0;
+      standing = length-replicate {A = ℕ} 256 0;
+      content = length-replicate {A = ℕ} 64 0;
+      wct = length-replicate {A = ℕ} 64 0;
+    },
+  ),
+)
 
 pub fresh-spec : {M : Type 1} → statement M
 fresh-spec = tie.close (tie.spec returns)
