@@ -1,0 +1,154 @@
+-- Each arm hands on its command's contract.
+use mathlib.Core.Path.{_≡_}
+use borrow.Author.Needs.{needs}
+use Rattle.engine.proofs.step.Statement.{statement}
+use Rattle.engine.proofs.step.Tie as tie
+
+enum-known-c : tie.Need-enum-known-c
+enum-known-c c = search needs
+
+begin-requires : tie.Need-begin-requires
+begin-requires c κs = search needs
+
+enum-known-c-2 : tie.Need-enum-known-c-2
+enum-known-c-2 c = search needs
+
+read-requires : tie.Need-read-requires
+read-requires c κs = search needs
+
+enum-known-c-3 : tie.Need-enum-known-c-3
+enum-known-c-3 c = search needs
+
+write-requires : tie.Need-write-requires
+write-requires c κs = search needs
+
+enum-known-c-4 : tie.Need-enum-known-c-4
+enum-known-c-4 c = search needs
+
+submit-requires : tie.Need-submit-requires
+submit-requires c κs = search needs
+
+enum-known-c-5 : tie.Need-enum-known-c-5
+enum-known-c-5 c = search needs
+
+take-requires : tie.Need-take-requires
+take-requires c κs = search needs
+
+enum-known-c-6 : tie.Need-enum-known-c-6
+enum-known-c-6 c = search needs
+
+decide-requires : tie.Need-decide-requires
+decide-requires c κs = search needs
+
+enum-known-c-7 : tie.Need-enum-known-c-7
+enum-known-c-7 c = search needs
+
+apply-requires : tie.Need-apply-requires
+apply-requires c κs = search needs
+
+enum-known-c-8 : tie.Need-enum-known-c-8
+enum-known-c-8 c = search needs
+
+give-up-requires : tie.Need-give-up-requires
+give-up-requires c κs = search needs
+
+returns : tie.Need-returns
+returns c =
+    let s = c .before .before .before .before in
+    let a = s .args in
+    let z = s .pre .1 in (
+      rw (c .before .before .c .given .1) (c .begin .ensures .0 (a .value .now) (a .seen .now) (a .mark .now) (a .claim .now) (a .standing .now) (a .content .now) (a .wct .now)),
+      (z, c .begin .ensures .1),
+    )
+
+returns-2 : tie.Need-returns-2
+returns-2 c =
+    let s = c .before .before .before .before .before .before .before .before .before .before .before in
+    let a = s .args in
+    let z = s .pre .1 in (
+      rw (c .before .before .before .before .before .before .before .before .before .c2 .given .1) (c .read .ensures .0),
+      (record { value = c .read .ensures .1 .0; seen = c .read .ensures .1 .1; mark = c .read .ensures .1 .2; claim = z .claim; standing = z .standing; content = z .content; wct = z .wct }, s .pre .0 .fits),
+    )
+
+returns-3 : tie.Need-returns-3
+returns-3 c =
+    let s = c .before .before .before .before .before .before .before in
+    let a = s .args in
+    let z = s .pre .1 in (
+      rw (c .before .before .before .before .before .c3 .given .1) (c .write .ensures .0 (a .seen .now) (a .standing .now) (a .content .now) (a .wct .now)),
+      (record { value = c .write .ensures .1 .0; seen = z .seen; mark = c .write .ensures .1 .1; claim = z .claim; standing = z .standing; content = z .content; wct = z .wct }, s .pre .0 .fits),
+    )
+
+returns-4 : tie.Need-returns-4
+returns-4 c =
+    let s = c .before .before .before .before .before .before in
+    let a = s .args in
+    let z = s .pre .1 in (
+      rw (c .before .before .before .before .c4 .given .1) (c .submit .ensures .0 (a .value .now) (a .seen .now) (a .standing .now) (a .content .now) (a .wct .now)),
+      (record { value = z .value; seen = z .seen; mark = z .mark; claim = c .submit .ensures .1 .0; standing = z .standing; content = z .content; wct = z .wct }, c .submit .ensures .1 .1),
+    )
+
+returns-5 : tie.Need-returns-5
+returns-5 c =
+    let s = c .before .before .before .before .before .before .before .before in
+    let a = s .args in
+    let z = s .pre .1 in (
+      rw (c .before .before .before .before .before .before .c5 .given .1) (c .take .ensures .0 (a .value .now) (a .mark .now) (a .content .now)),
+      (record { value = z .value; seen = z .seen; mark = z .mark; claim = z .claim; standing = c .take .ensures .1 .0; content = z .content; wct = z .wct }, c .take .ensures .1 .1),
+    )
+
+returns-6 : tie.Need-returns-6
+returns-6 c =
+    let s = c .before .before .before .before .before .before .before in
+    let a = s .args in
+    let z = s .pre .1 in (
+      rw (c .before .before .before .before .before .c6 .given .1) (c .decide .ensures .0 (a .value .now) (a .seen .now) (a .content .now) (a .wct .now)),
+      (record { value = z .value; seen = z .seen; mark = c .decide .ensures .1 .0; claim = z .claim; standing = z .standing; content = z .content; wct = z .wct }, c .decide .ensures .1 .1),
+    )
+
+returns-7 : tie.Need-returns-7
+returns-7 c =
+    let s = c .before .before .before .before .before .before .before .before .before .before in
+    let a = s .args in
+    let z = s .pre .1 in (
+      rw (c .before .before .before .before .before .before .before .before .c7 .given .1) (c .apply .ensures .0 (a .seen .now)),
+      (record { value = z .value; seen = z .seen; mark = z .mark; claim = z .claim; standing = c .apply .ensures .1 .0; content = c .apply .ensures .1 .1; wct = c .apply .ensures .1 .2 }, s .pre .0 .fits),
+    )
+
+returns-8 : tie.Need-returns-8
+returns-8 c =
+    let s = c .before .before .before .before in
+    let a = s .args in
+    let z = s .pre .1 in (
+      rw (c .before .before .c8 .given .1) (c .give-up .ensures .0 (a .value .now) (a .seen .now) (a .mark .now) (a .claim .now) (a .standing .now) (a .content .now) (a .wct .now)),
+      (z, c .give-up .ensures .1),
+    )
+
+pub step-spec : {M : Type 1} → statement M
+step-spec =
+    tie.close
+    (tie.spec
+    enum-known-c
+    begin-requires
+    enum-known-c-2
+    read-requires
+    enum-known-c-3
+    write-requires
+    enum-known-c-4
+    submit-requires
+    enum-known-c-5
+    take-requires
+    enum-known-c-6
+    decide-requires
+    enum-known-c-7
+    apply-requires
+    enum-known-c-8
+    give-up-requires
+    returns
+    returns-2
+    returns-3
+    returns-4
+    returns-5
+    returns-6
+    returns-7
+    returns-8)

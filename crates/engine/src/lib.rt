@@ -1,0 +1,55 @@
+// One step of a session.
+ghost use Prim.Native.Nat.{_≤_};
+ghost use mathlib.Core.Path.{_≡_};
+ghost use Rattle.wire.specs.Meaning.{command-of};
+ghost use Rattle.state.specs.View.{view, Steps};
+ghost use Rattle.state.specs.Ready.{Ready, Rising, Sized};
+use state::Control;
+use state::Stepped;
+use wire::Command;
+
+// State and answer after a command are those of the rules.
+pub fn step(
+    d: Control,
+    value: &mut [u32; 2048],
+    seen: &mut [u32; 2048],
+    mark: &mut [u8; 2048],
+    claim: &mut [u8; 2048],
+    standing: &mut [u8; 256],
+    content: &mut [u32; 64],
+    wct: &mut [u32; 64],
+    c: Command,
+) -> Stepped
+    requires { ⌜ Ready d × Sized (now value) (now seen) (now mark) (now claim) (now standing) (now content) (now wct) × Rising (now wct) ⌝ }
+    ensures { λ r. ⌜ Steps (view d (now (value .entry)) (now (seen .entry)) (now (mark .entry)) (now (claim .entry)) (now (standing .entry)) (now (content .entry)) (now (wct .entry))) (command-of c) (view (r .control) (now (value .exit)) (now (seen .exit)) (now (mark .exit)) (now (claim .exit)) (now (standing .exit)) (now (content .exit)) (now (wct .exit))) (r .answer) ⌝ }
+    ensures kept { λ r. ⌜ Sized (now (value .exit)) (now (seen .exit)) (now (mark .exit)) (now (claim .exit)) (now (standing .exit)) (now (content .exit)) (now (wct .exit)) × (r .control .placed ≤ 32) ⌝ }
+{
+    match c {
+        Command::Begin(t) => saves::begin(d, t),
+        Command::Read(t, k) => {
+            let a = saves::read(d, value, seen, mark, claim, standing, content, wct, t, k);
+            Stepped {
+                answer: a,
+                control: d,
+            }
+        }
+        Command::Write(t, k, v) => {
+            let a = saves::write(d, value, mark, claim, t, k, v);
+            Stepped {
+                answer: a,
+                control: d,
+            }
+        }
+        Command::Submit(t) => saves::submit(d, mark, claim, t),
+        Command::Take(n) => nodes::take(d, seen, claim, standing, wct, n),
+        Command::Decide(t) => saves::decide(d, mark, claim, standing, t),
+        Command::Apply(n, t) => {
+            let a = nodes::apply(d, value, mark, claim, standing, content, wct, n, t);
+            Stepped {
+                answer: a,
+                control: d,
+            }
+        }
+        Command::GiveUp(t) => saves::give_up(d, t),
+    }
+}
