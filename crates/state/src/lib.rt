@@ -2,6 +2,7 @@
 ghost use mathlib.Core.Path.{_≡_};
 ghost use Rattle.rules.specs.State.{fresh};
 ghost use Rattle.state.specs.View.{shown, header-of, no-tally};
+ghost use Rattle.state.specs.Ready.{Shaped, Sized};
 
 // Phases: 0 unused, 1 first run, 2 submitted, 3 second run, 4 committed, 5 dropped.
 pub struct Control {
@@ -46,6 +47,7 @@ impl Session {
 
     pub fn fresh(nodes: u8, sheets: u8, owner: [u8; Session::SHEETS]) -> Session
         ensures { λ r. ⌜ shown r no-tally ≡ fresh (header-of nodes sheets owner) ⌝ }
+        ensures kept { λ r. ⌜ Shaped (r .control) × Sized (r .value) (r .seen) (r .mark) (r .claim) (r .standing) (r .content) (r .wct) ⌝ }
     {
         Session {
             control: Control {

@@ -3,8 +3,10 @@ use Prim.Native.Nat.{ℕ, zero, suc, _+_, _*_}
 use mathlib.Core.Path.{_≡_, refl, fun-ext}
 use mathlib.Core.Bool.{Bool, true, false, cond}
 use mathlib.Core.List.{List}
+use native.Mathlib.Omega.{arith}
 use lib.ListN.{getD, replicate}
 use lib.Dec.{ltb}
+use borrow.Author.Needs.{needs}
 use Rattle.rules.specs.State.{fresh}
 use Rattle.state.specs.declared.Control.{Control}
 use Rattle.state.specs.Places.{entries}
@@ -50,20 +52,25 @@ module _ (d : Control) (value seen mark claim standing content wct : List ℕ) w
       refl
 
 returns : tie.Need-returns
-returns c =
-    fresh-view (record {
-      nodes = c .args .nodes;
-      sheets = c .args .sheets;
-      placed = 0;
-      owner = c .args .owner;
-      phase = replicate 32 0;
-      failed = replicate 32 0;
-      runs = replicate 32 0;
-      order = replicate 32 0;
-      place = replicate 32 0;
-      taken = replicate 8 0;
-    }) (replicate 2048 0) (replicate 2048 0) (replicate 2048 0) (replicate 2048 0) (replicate 256 0) (replicate 64 0) (replicate 64 0)
-    refl (zeros 32) (zeros 32) (zeros 32) (zeros 32) (zeros 8) (zeros 2048) (zeros 2048) (zeros 2048) (zeros 2048) (zeros 64) (zeros 64)
+returns c = (
+  fresh-view (record {
+    nodes = c .args .nodes;
+    sheets = c .args .sheets;
+    placed = 0;
+    owner = c .args .owner;
+    phase = replicate 32 0;
+    failed = replicate 32 0;
+    runs = replicate 32 0;
+    order = replicate 32 0;
+    place = replicate 32 0;
+    taken = replicate 8 0;
+  }) (replicate 2048 0) (replicate 2048 0) (replicate 2048 0) (replicate 2048 0) (replicate 256 0) (replicate 64 0) (replicate 64 0)
+      refl (zeros 32) (zeros 32) (zeros 32) (zeros 32) (zeros 8) (zeros 2048) (zeros 2048) (zeros 2048) (zeros 2048) (zeros 64) (zeros 64),
+  (
+    record { owner = search needs; phase = refl; failed = refl; runs = refl; order = refl; place = refl; taken = refl; fits = omega arith },
+    record { value = refl; seen = refl; mark = refl; claim = refl; standing = refl; content = refl; wct = refl },
+  ),
+)
 
 pub fresh-spec : {M : Type 1} → statement M
 fresh-spec = tie.close (tie.spec returns)
