@@ -1,9 +1,7 @@
 // One step of a session.
-ghost use Prim.Native.Nat.{_≤_};
-ghost use mathlib.Core.Path.{_≡_};
 ghost use Rattle.wire.specs.Meaning.{command-of};
-ghost use Rattle.state.specs.View.{view, Steps};
-ghost use Rattle.state.specs.Ready.{Ready, Rising, Sized};
+ghost use Rattle.state.specs.View.{view, no-tally, Steps};
+ghost use Rattle.state.specs.Ready.{Shaped, Sized, Known};
 use state::Control;
 use state::Stepped;
 use wire::Command;
@@ -20,9 +18,9 @@ pub fn step(
     wct: &mut [u32; 64],
     c: Command,
 ) -> Stepped
-    requires { ⌜ Ready d × Sized (now value) (now seen) (now mark) (now claim) (now standing) (now content) (now wct) × Rising (now wct) ⌝ }
+    requires { ⌜ Shaped d × Sized (now value) (now seen) (now mark) (now claim) (now standing) (now content) (now wct) × Known (view d (now value) (now seen) (now mark) (now claim) (now standing) (now content) (now wct) no-tally) ⌝ }
     ensures { λ r. ⌜ Steps (view d (now (value .entry)) (now (seen .entry)) (now (mark .entry)) (now (claim .entry)) (now (standing .entry)) (now (content .entry)) (now (wct .entry))) (command-of c) (view (r .control) (now (value .exit)) (now (seen .exit)) (now (mark .exit)) (now (claim .exit)) (now (standing .exit)) (now (content .exit)) (now (wct .exit))) (r .answer) ⌝ }
-    ensures kept { λ r. ⌜ Sized (now (value .exit)) (now (seen .exit)) (now (mark .exit)) (now (claim .exit)) (now (standing .exit)) (now (content .exit)) (now (wct .exit)) × (r .control .placed ≤ 32) ⌝ }
+    ensures kept { λ r. ⌜ Sized (now (value .exit)) (now (seen .exit)) (now (mark .exit)) (now (claim .exit)) (now (standing .exit)) (now (content .exit)) (now (wct .exit)) × Shaped (r .control) ⌝ }
 {
     match c {
         Command::Begin(t) => saves::begin(d, t),

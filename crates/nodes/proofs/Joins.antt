@@ -5,7 +5,7 @@ use mathlib.Core.Bool.{Bool, true, false, _&&_, _||_, cond, or-true, or-false}
 use mathlib.Core.List.{List, [], _∷_, _++_}
 use native.Mathlib.Omega.{arith}
 use native.Mathlib.Numerals.{add-one}
-use lib.ListN.{length, getD, set, take}
+use lib.ListN.{length, getD, set, take, length-set}
 use lib.Seq.{getD-set-same, getD-set-other, getD-take}
 use lib.Dec.{ltb, eqb}
 use borrow.Author.Tests.{eq-eqb, ne-eqb, lt-ltb, le-ltb}
@@ -19,7 +19,7 @@ use Rattle.state.specs.declared.Verdict.{Verdict}
 use Rattle.state.specs.declared.Answer.the-variants.{Took, Refused}
 use Rattle.state.specs.Places.{at, by, entries}
 use Rattle.state.specs.View.{set?, claim-in, entered, queue-in, view, no-tally, verdict-of, Steps}
-use Rattle.state.specs.Ready.{Ready}
+use Rattle.state.specs.Ready.{Shaped, Ready}
 use Rattle.state.proofs.Tables.{same?, upd-by}
 use Rattle.state.proofs.Stores.{view-set}
 use Rattle.state.proofs.Places.{entries-on, entries-cong, order-length}
@@ -39,12 +39,12 @@ took d failed n = record {
   taken = set (d .taken) n (getD (d .taken) n 0 + 1);
 }
 
-module _ (d : Control) (lo : length (d .order) ≡ 32) (ready : Ready d) where
+module _ (d : Control) (ready : Ready d) where
   pub take-9 : (value seen mark claim standing content wct : List ℕ) (n : ℕ) → n < d .nodes → d .placed ≤ getD (d .taken) n 0
       → Steps (view d value seen mark claim standing content wct) (Take n) (view d value seen mark claim standing content wct) (Refused 9)
-  take-9 value seen mark claim standing content wct n h l = refused (λ tally. rw (lt-ltb n (d .nodes) h, order-length d lo ready, le-ltb (getD (d .taken) n 0) (d .placed) l))
+  take-9 value seen mark claim standing content wct n h l = refused (λ tally. rw (lt-ltb n (d .nodes) h, order-length d (ready .shaped), le-ltb (getD (d .taken) n 0) (d .placed) l))
 
-  module _ (claim standing : List ℕ) (n : ℕ) (n8 : n < 8) (lt : length (d .taken) ≡ 8) (ls : length standing ≡ 256) (h : getD (d .taken) n 0 < d .placed) where
+  module _ (claim standing : List ℕ) (n : ℕ) (n8 : n < 8) (ls : length standing ≡ 256) (h : getD (d .taken) n 0 < d .placed) where
     abbrev p : ℕ
     p = getD (d .taken) n 0
 
@@ -93,7 +93,7 @@ module _ (d : Control) (lo : length (d .order) ≡ 32) (ready : Ready d) where
     grows k m =
         same? m n
         (λ e. subst (Grows k) (sym e)
-        (rw (getD-set-same (d .taken) n (p + 1) 0 (rw lt n8), add-one p, eq-eqb n n refl)
+        (rw (getD-set-same (d .taken) n (p + 1) 0 (rw (ready .shaped .taken) n8), add-one p, eq-eqb n n refl)
         (entries-on (d .order) place (entered standing′ claim n k) p ∙ rw (joins k, before-same k n))))
         (λ z. rw (getD-set-other (d .taken) n m (p + 1) 0 z, ne-eqb m n z) (before-same k m))
 
@@ -104,11 +104,23 @@ module _ (d : Control) (lo : length (d .order) ≡ 32) (ready : Ready d) where
     take-steps value seen mark content wct failed b v ln eb ev ef =
         let nx : getD (take (d .placed) (d .order)) p 0 ≡ t = getD-take (d .placed) (d .order) p 0 h in
         accepted
-        (λ tally. rw (lt-ltb n (d .nodes) ln, order-length d lo ready, lt-ltb p (d .placed) h))
+        (λ tally. rw (lt-ltb n (d .nodes) ln, order-length d (ready .shaped), lt-ltb p (d .placed) h))
         (λ tally. rw nx
         (same-state refl refl (fun-ext (λ k. grows k (getD (d .owner) k 0))) refl refl refl refl (ef ∙ rw eb) refl refl refl
-        (view-set (λ x. x) (d .taken) n (p + 1) (rw lt n8) ∙ rw add-one) refl))
+        (view-set (λ x. x) (d .taken) n (p + 1) (rw (ready .shaped .taken) n8) ∙ rw add-one) refl))
         (λ tally. rw (nx, ev, eb))
+
+pub took-shaped : (d : Control) (failed : List ℕ) (n : ℕ) → Shaped d → length failed ≡ 32 → Shaped (took d failed n)
+took-shaped d failed n z e = record {
+  owner = z .owner;
+  phase = z .phase;
+  failed = e;
+  runs = z .runs;
+  order = z .order;
+  place = z .place;
+  taken = rw length-set (z .taken);
+  fits = z .fits;
+}
 
 -- the failed mark of an invalid save, and of a valid one
 pub failed-set : (l : List ℕ) (t : ℕ) → t < length l → _≡_ {A = ℕ → Bool} (λ j. set? (getD (set l t 1) j 0)) (upd (λ j. set? (getD l j 0)) t (set? (getD l t 0) || true))

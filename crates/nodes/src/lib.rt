@@ -8,7 +8,7 @@ ghost use lib.Dec.{eqb, leb};
 ghost use Rattle.rules.specs.Bytes.{Take, Apply};
 ghost use Rattle.state.specs.View.{view, Steps};
 ghost use Rattle.state.specs.Fill.{fill};
-ghost use Rattle.state.specs.Ready.{Ready, Rising};
+ghost use Rattle.state.specs.Ready.{Shaped, Ready, Rising};
 ghost use Rattle.nodes.specs.Carry.{contents, wcts};
 use state::Answer;
 use state::Control;
@@ -26,7 +26,7 @@ pub fn take(
 ) -> Stepped
     requires { ⌜ Ready d × (length (now standing) ≡ 256) ⌝ }
     ensures { λ r. ⌜ ((value mark content : List ℕ) → Steps (view d value (now (seen .entry)) mark (now (claim .entry)) (now (standing .entry)) content (now (wct .entry))) (Take n) (view (r .control) value (now (seen .entry)) mark (now (claim .entry)) (now (standing .exit)) content (now (wct .entry))) (r .answer)) ⌝ }
-    ensures kept { λ r. ⌜ (length (now (standing .exit)) ≡ 256) × (r .control .placed ≤ 32) ⌝ }
+    ensures kept { λ r. ⌜ (length (now (standing .exit)) ≡ 256) × Shaped (r .control) ⌝ }
 {
     if d.nodes <= n {
         return Stepped {

@@ -5,7 +5,7 @@ use mathlib.Core.Logic.{_≢_}
 use mathlib.Core.List.{List, [], _∷_, _++_}
 use native.Mathlib.Omega.{arith}
 use native.Mathlib.Numerals.{add-one}
-use lib.ListN.{length, getD, set}
+use lib.ListN.{length, getD, set, length-set}
 use lib.Seq.{getD-set-other, take-suc-set}
 use borrow.Author.Tests.{lt-ltb}
 use Rattle.rules.specs.Bytes.{Submit}
@@ -16,7 +16,7 @@ use Rattle.state.specs.declared.Answer.the-variants.{Accepted}
 use Rattle.state.specs.Places.{at}
 use Rattle.state.specs.View.{as-phase, as-mark, flat, claim-in, entered, queue-in, view, Steps}
 use Rattle.state.specs.Fill.{fill}
-use Rattle.state.specs.Ready.{Ready}
+use Rattle.state.specs.Ready.{Shaped, Ready}
 use Rattle.state.proofs.Tables.{row-by}
 use Rattle.state.proofs.Codes.{claim-code}
 use Rattle.state.proofs.Stores.{view-set, row-in, row-out}
@@ -35,6 +35,18 @@ joins-order d t = record {
   order = set (d .order) (d .placed) t;
   place = set (d .place) t (d .placed);
   taken = d .taken;
+}
+
+pub joins-shaped : (d : Control) (t : ℕ) → Shaped d → d .placed < 32 → Shaped (joins-order d t)
+joins-shaped d t z room = record {
+  owner = z .owner;
+  phase = rw length-set (z .phase);
+  failed = z .failed;
+  runs = z .runs;
+  order = rw length-set (z .order);
+  place = rw length-set (z .place);
+  taken = z .taken;
+  fits = omega arith;
 }
 
 module _ (d : Control) (mark claim : List ℕ) (t : ℕ) (t32 : t < 32) (e : getD (d .phase) t 0 ≡ 1) (ready : Ready d) where
@@ -65,17 +77,17 @@ module _ (d : Control) (mark claim : List ℕ) (t : ℕ) (t32 : t < 32) (e : get
       (λ q l. getD-set-other (d .place) t (at (d .order) q) (d .placed) 0 (other q (omega arith)))
       (λ q l. rw (row-out claim t (λ j. getD mark (t * 64 + j) 0) (at (d .order) q) k (other q (omega arith))))
 
-  pub submit-first : (value seen standing content wct : List ℕ) → length (d .phase) ≡ 32 → length (d .order) ≡ 32 → length (d .place) ≡ 32 → length claim ≡ 2048
+  pub submit-first : (value seen standing content wct : List ℕ) → length claim ≡ 2048
       → Steps (view d value seen mark claim standing content wct) (Submit t) (view (joins-order d t) value seen mark claim′ standing content wct) Accepted
-  submit-first value seen standing content wct lp lo ll lc =
+  submit-first value seen standing content wct lc =
       let room = ready .room t t32 e in
       accepted
       (λ tally. rw (lt-ltb t 32 t32, e))
       (λ tally. rw e (same-state refl refl
       (fun-ext (λ k. same-queue standing k (getD (d .owner) k 0)))
-      (view-set as-phase (d .phase) t 2 (rw lp t32)) refl refl
+      (view-set as-phase (d .phase) t 2 (rw (ready .shaped .phase) t32)) refl refl
       (claims-row lc) refl refl
-      (rw add-one (take-suc-set (d .order) (d .placed) t (rw lo room)))
-      (rw (order-length d lo ready) (view-set (λ x. x) (d .place) t (d .placed) (rw ll t32)))
+      (rw add-one (take-suc-set (d .order) (d .placed) t (rw (ready .shaped .order) room)))
+      (rw (order-length d (ready .shaped)) (view-set (λ x. x) (d .place) t (d .placed) (rw (ready .shaped .place) t32)))
       refl refl))
       (λ tally. refl)

@@ -11,7 +11,7 @@ ghost use Rattle.rules.specs.State.{claims};
 ghost use Rattle.rules.specs.Steps.{at-front, x-on, has-taken, granted};
 ghost use Rattle.state.specs.View.{set?, claim-in, queue-in, view, no-tally, Steps};
 ghost use Rattle.state.specs.Fill.{fill};
-ghost use Rattle.state.specs.Ready.{Once, Ready};
+ghost use Rattle.state.specs.Ready.{Shaped, Once, Ready};
 ghost use Rattle.queues.specs.Walk.{Walk};
 use state::Answer;
 use state::Control;
@@ -31,7 +31,7 @@ fn running(p: u8) -> bool
 pub fn begin(mut d: Control, t: u8) -> Stepped
     requires { ⌜ Ready d ⌝ }
     ensures { λ r. ⌜ ((value seen mark claim standing content wct : List ℕ) → Steps (view d value seen mark claim standing content wct) (Begin t) (view (r .control) value seen mark claim standing content wct) (r .answer)) ⌝ }
-    ensures kept { λ r. ⌜ r .control .placed ≤ 32 ⌝ }
+    ensures kept { λ r. ⌜ Shaped (r .control) ⌝ }
 {
     if 32 <= t {
         return Stepped {
@@ -60,7 +60,7 @@ pub fn begin(mut d: Control, t: u8) -> Stepped
 pub fn give_up(mut d: Control, t: u8) -> Stepped
     requires { ⌜ Ready d ⌝ }
     ensures { λ r. ⌜ ((value seen mark claim standing content wct : List ℕ) → Steps (view d value seen mark claim standing content wct) (GiveUp t) (view (r .control) value seen mark claim standing content wct) (r .answer)) ⌝ }
-    ensures kept { λ r. ⌜ r .control .placed ≤ 32 ⌝ }
+    ensures kept { λ r. ⌜ Shaped (r .control) ⌝ }
 {
     if 32 <= t {
         return Stepped {
@@ -237,7 +237,7 @@ fn claim_row(claim: &mut [u8; 2048], mark: &[u8; 2048], t: usize)
 pub fn submit(mut d: Control, mark: &[u8; 2048], claim: &mut [u8; 2048], t: u8) -> Stepped
     requires { ⌜ Ready d × (length (now claim) ≡ 2048) ⌝ }
     ensures { λ r. ⌜ ((value seen standing content wct : List ℕ) → Steps (view d value seen (now (mark .entry)) (now (claim .entry)) standing content wct) (Submit t) (view (r .control) value seen (now (mark .entry)) (now (claim .exit)) standing content wct) (r .answer)) ⌝ }
-    ensures kept { λ r. ⌜ (length (now (claim .exit)) ≡ 2048) × (r .control .placed ≤ 32) ⌝ }
+    ensures kept { λ r. ⌜ (length (now (claim .exit)) ≡ 2048) × Shaped (r .control) ⌝ }
 {
     if 32 <= t {
         return Stepped {
@@ -307,7 +307,7 @@ pub fn decide(
 ) -> Stepped
     requires { ⌜ Ready d × (length (now mark) ≡ 2048) ⌝ }
     ensures { λ r. ⌜ ((value seen content wct : List ℕ) → Steps (view d value seen (now (mark .entry)) (now (claim .entry)) (now (standing .entry)) content wct) (Decide t) (view (r .control) value seen (now (mark .exit)) (now (claim .entry)) (now (standing .entry)) content wct) (r .answer)) ⌝ }
-    ensures kept { λ r. ⌜ (length (now (mark .exit)) ≡ 2048) × (r .control .placed ≤ 32) ⌝ }
+    ensures kept { λ r. ⌜ (length (now (mark .exit)) ≡ 2048) × Shaped (r .control) ⌝ }
 {
     if 32 <= t {
         return Stepped {

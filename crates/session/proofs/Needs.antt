@@ -6,7 +6,7 @@ use mathlib.Core.List.{List, [], _∷_}
 use mathlib.Core.Option.{Option, none, some}
 use native.Mathlib.Omega.{arith}
 use native.Mathlib.Numerals.{add-one}
-use lib.ListN.{length, take, drop, length-take, length-drop}
+use lib.ListN.{length, take, drop, length-drop}
 use Rattle.rules.specs.Bytes as bytes
 use Rattle.rules.specs.Bytes.{header, header-size, opens, byte, Command, Front, unknown, cut, whole, stopped}
 use Rattle.rules.specs.State as rules
@@ -26,7 +26,7 @@ use Rattle.wire.proofs.Rest.{step-fits}
 use Rattle.state.specs.declared.Answer.{Answer}
 use Rattle.state.specs.declared.Answer.the-variants.{Accepted, Content, Took, Commits, SecondRun, Recommits, Refused}
 use Rattle.state.specs.View.{header-of, no-tally, advanced, Steps}
-use Rattle.state.specs.Ready.{Ready, Rising, Sized}
+use Rattle.state.specs.Ready.{Shaped, Sized, Known}
 use Rattle.tally.specs.declared.Tally.{Tally}
 use Rattle.tally.specs.Figures.{figures, Room}
 use Rattle.session.specs.declared.Stop.{Stop}
@@ -39,7 +39,7 @@ use Rattle.session.specs.Going.{Going}
 use Rattle.session.specs.Looping.{Arrays, shows, Sizes, Looping}
 use Rattle.session.specs.Carried.{Carried, Within}
 use Rattle.session.proofs.Loop as loop
-use Rattle.session.proofs.Ready as known
+use Rattle.session.proofs.Ready.{known}
 use Rattle.session.proofs.Turn.{moved, stayed}
 
 -- ---- The header
@@ -61,16 +61,11 @@ header-same b nodes sheets o = λ i. record { nodes = o .nodes-are i; sheets = o
 
 -- ---- The start
 
-module _ (b : List ℕ) (nodes sheets : ℕ) (o : Opening b nodes sheets) (x : Arrays) (tally : Tally)
-    (e : shows x no-tally ≡ fresh (header-of nodes sheets (owners-of b))) (long : length (x .control .order) ≡ 32) where
-  none-placed : x .control .placed ≤ 32
-  unfolding fresh
-  none-placed = omega (arith, length-take (x .control .placed) (x .control .order), ap (λ s. length (s .order)) e)
-
-  pub starts : figures tally ≡ no-tally → Sized (x .value) (x .seen) (x .mark) (x .claim) (x .standing) (x .content) (x .wct) → Looping b x tally NoCommand (2 + sheets)
-  starts f z = record {
+module _ (b : List ℕ) (nodes sheets : ℕ) (o : Opening b nodes sheets) (x : Arrays) (tally : Tally) where
+  pub starts : shows x no-tally ≡ fresh (header-of nodes sheets (owners-of b)) → figures tally ≡ no-tally → Sizes x → Looping b x tally NoCommand (2 + sheets)
+  starts e f z = record {
     going = rw (f, e, header-same b nodes sheets o, o .sheets-are) (loop.starts b (o .opened-well));
-    sizes = record { fits = none-placed; long = long; sized = z };
+    sizes = z;
   }
 
 -- ---- A turn
@@ -79,13 +74,23 @@ module _ (b : List ℕ) (o : opens b ≡ true) (x : Arrays) (tally : Tally) (las
   counted : tally .accepted ≤ 16384
   counted = omega (arith, v .going .counted, v .going .within, opens-has b o .0 .size)
 
-  pub ready : Ready (x .control) × Sized (x .value) (x .seen) (x .mark) (x .claim) (x .standing) (x .content) (x .wct) × Rising (x .wct)
-  ready =
-      let h = ap (λ s. s) (v .going .header-is) in (
-        known.ready b o (x .control) (x .value) (x .seen) (x .mark) (x .claim) (x .standing) (x .content) (x .wct) (figures tally) (v .going .reached) h (v .sizes .fits) (v .sizes .long),
-        v .sizes .sized,
-        known.rising b o (x .control) (x .value) (x .seen) (x .mark) (x .claim) (x .standing) (x .content) (x .wct) (figures tally) (v .going .reached) h (v .sizes .fits) (v .sizes .long) counted,
-      )
+  pub ready : Shaped (x .control) × Sized (x .value) (x .seen) (x .mark) (x .claim) (x .standing) (x .content) (x .wct) × Known (shows x no-tally)
+  ready = (v .sizes .shaped, v .sizes .sized, no-matter (known b o (shows x (figures tally)) (v .going .reached) (v .going .header-is) counted))
+    where
+      -- the tally says nothing of what a step relies on
+      no-matter : Known (shows x (figures tally)) → Known (shows x no-tally)
+      no-matter k = record {
+        nodes8 = k .nodes8;
+        sheets64 = k .sheets64;
+        owners = k .owners;
+        takens = k .takens;
+        small = k .small;
+        once = k .once;
+        joined = k .joined;
+        room = k .room;
+        runs = k .runs;
+        rises = k .rises;
+      }
 
   pub room : Room tally
   room = record {
@@ -134,8 +139,7 @@ module _ (b : List ℕ) (o : opens b ≡ true) (x : Arrays) (tally : Tally) (las
               tables = record { value = x′ .value; seen = x′ .seen; mark = x′ .mark; claim = x′ .claim; standing = x′ .standing };
               same = loop.refused b (shows x (figures tally)) (reply-of last) p (v .going) (command-of c) w whole-here (refusal-in a) (m .refused)
                   ∙ λ i. record { state = sym k i; stop = stopped p (refusal-in a) (sym g i); last = reply-of last };
-              fits = z .fits;
-              long = z .long;
+              shaped = z .shaped;
               within = omega (arith, fits);
             }
 
@@ -146,8 +150,7 @@ module _ (b : List ℕ) (o : opens b ≡ true) (x : Arrays) (tally : Tally) (las
       carried = record {
         tables = record { value = x .value; seen = x .seen; mark = x .mark; claim = x .claim; standing = x .standing };
         same = same;
-        fits = v .sizes .fits;
-        long = v .sizes .long;
+        shaped = v .sizes .shaped;
         within = w;
       }
 

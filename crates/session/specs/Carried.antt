@@ -5,6 +5,7 @@ use mathlib.Core.List.{List}
 use lib.ListN.{length}
 use Rattle.rules.proofs.Sessions.{Final, session-final}
 use Rattle.state.specs.View.{view}
+use Rattle.state.specs.Ready.{Shaped}
 use Rattle.tally.specs.Figures.{figures}
 use Rattle.session.specs.declared.Ended.{Ended}
 use Rattle.session.specs.declared.Stop.{Stop}
@@ -35,6 +36,5 @@ Within n (Refused p m shown) = p + shown ≤ n
 pub record Carried (b : List ℕ) (r : Ended) : Type 0 where
   pub tables : Tables
   pub same : session-final b ≡ shows r tables
-  pub fits : r .control .placed ≤ 32
-  pub long : length (r .control .order) ≡ 32
+  pub shaped : Shaped (r .control)
   pub within : Within (length b) (r .stop)

@@ -1,13 +1,11 @@
 -- The run's loop over the arrays.
-use Prim.Native.Nat.{ℕ, _≤_}
-use mathlib.Core.Path.{_≡_}
+use Prim.Native.Nat.{ℕ}
 use mathlib.Core.List.{List}
-use lib.ListN.{length}
 use Rattle.rules.specs.State as rules
 use Rattle.rules.specs.State.{State}
 use Rattle.state.specs.declared.Control.{Control}
 use Rattle.state.specs.View.{view}
-use Rattle.state.specs.Ready.{Sized}
+use Rattle.state.specs.Ready.{Shaped, Sized}
 use Rattle.tally.specs.declared.Tally.{Tally}
 use Rattle.tally.specs.Figures.{figures}
 use Rattle.session.specs.declared.Reply.{Reply}
@@ -40,10 +38,8 @@ arrays d value seen mark claim standing content wct = record {
 abbrev pub shows : Arrays → rules.Tally → State
 shows x tally = view (x .control) (x .value) (x .seen) (x .mark) (x .claim) (x .standing) (x .content) (x .wct) tally
 
--- sizes, which an array that is lent or returned in a struct does not tell by itself
 pub record Sizes (x : Arrays) : Type 0 where
-  pub fits : x .control .placed ≤ 32
-  pub long : length (x .control .order) ≡ 32
+  pub shaped : Shaped (x .control)
   pub sized : Sized (x .value) (x .seen) (x .mark) (x .claim) (x .standing) (x .content) (x .wct)
 
 pub record Looping (b : List ℕ) (x : Arrays) (tally : Tally) (last : Reply) (p : ℕ) : Type 0 where

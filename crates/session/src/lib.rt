@@ -1,6 +1,5 @@
 // The run over a whole session.
 ghost use mathlib.Core.Path.{_≡_};
-ghost use lib.ListN.{length};
 ghost use Rattle.wire.specs.Meaning.{opened};
 ghost use Rattle.wire.specs.declared.Opened.the-variants.{Header};
 ghost use Rattle.session.specs.Meaning.{refusal-in, reply-to};
@@ -8,7 +7,6 @@ ghost use Rattle.session.specs.Carried.{Carried};
 use state::Answer;
 use state::Control;
 use state::Session;
-use state::Stepped;
 use state::Verdict;
 use tally::Tally;
 use wire::Next;
@@ -90,13 +88,6 @@ fn closed(
     }
 }
 
-// The control after a step, with the length of its order, which a struct inside a struct does not tell.
-fn control_after(r: Stepped) -> Control
-    ensures { λ c. ⌜ (c ≡ r .control) × (length (c .order) ≡ 32) ⌝ }
-{
-    r.control
-}
-
 // Carries a session with this header through to its end or its first refusal. The large tables live here, and are lent to each step.
 pub fn run(session: &[u8], nodes: u8, sheets: u8) -> Ended
     requires { ⌜ Header nodes sheets ≡ opened (now session) ⌝ }
@@ -130,7 +121,7 @@ pub fn run(session: &[u8], nodes: u8, sheets: u8) -> Ended
                     c,
                 );
                 let a = r.answer;
-                let e = control_after(r);
+                let e = r.control;
                 d = e;
                 let n = refusal(a);
                 if n != 0 {

@@ -3,3 +3,4 @@ pub mod Codes
 pub mod Stores
 pub mod Places
 pub mod Steps
+pub mod Ready

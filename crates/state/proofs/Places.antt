@@ -11,11 +11,11 @@ use lib.Dec.{eqb}
 use Rattle.rules.specs.Steps.{without}
 use Rattle.state.specs.declared.Control.{Control}
 use Rattle.state.specs.Places.{at, by, entries}
-use Rattle.state.specs.Ready.{Ready}
+use Rattle.state.specs.Ready.{Shaped}
 use Rattle.state.proofs.Tables.{bool}
 
-pub order-length : (d : Control) → length (d .order) ≡ 32 → Ready d → length (take (d .placed) (d .order)) ≡ d .placed
-order-length d lo ready = length-take-le (d .placed) (d .order) (rw lo (ready .fits))
+pub order-length : (d : Control) → Shaped d → length (take (d .placed) (d .order)) ≡ d .placed
+order-length d shaped = length-take-le (d .placed) (d .order) (rw (shaped .order) (shaped .fits))
 
 pub entries-on : (order : List ℕ) (place : ℕ → ℕ) (f : ℕ → Bool) (p : ℕ)
     → entries order place f (suc p) ≡ cond (by order place f p) (entries order place f p ++ at order p ∷ []) (entries order place f p)

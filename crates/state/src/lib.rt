@@ -1,9 +1,8 @@
 // A session's state as arrays. What is small goes by value, as `Control`; the tables are lent and changed in place.
 ghost use mathlib.Core.Path.{_≡_};
 ghost use Rattle.rules.specs.State.{fresh};
-ghost use lib.ListN.{length};
 ghost use Rattle.state.specs.View.{shown, header-of, no-tally};
-ghost use Rattle.state.specs.Ready.{Sized};
+ghost use Rattle.state.specs.Ready.{Shaped, Sized};
 
 // Phases: 0 unused, 1 first run, 2 submitted, 3 second run, 4 committed, 5 dropped.
 pub struct Control {
@@ -48,7 +47,7 @@ impl Session {
 
     pub fn fresh(nodes: u8, sheets: u8, owner: [u8; Session::SHEETS]) -> Session
         ensures { λ r. ⌜ shown r no-tally ≡ fresh (header-of nodes sheets owner) ⌝ }
-        ensures sized { λ r. ⌜ (length (r .control .order) ≡ 32) × Sized (r .value) (r .seen) (r .mark) (r .claim) (r .standing) (r .content) (r .wct) ⌝ }
+        ensures kept { λ r. ⌜ Shaped (r .control) × Sized (r .value) (r .seen) (r .mark) (r .claim) (r .standing) (r .content) (r .wct) ⌝ }
     {
         Session {
             control: Control {

@@ -1,5 +1,7 @@
 -- Each arm hands on its command's contract.
 use mathlib.Core.Path.{_≡_}
+use Rattle.state.specs.View.{no-tally}
+use Rattle.state.proofs.Ready.{ready, rising}
 use borrow.Author.Needs.{needs}
 use Rattle.engine.proofs.step.Statement.{statement}
 use Rattle.engine.proofs.step.Tie as tie
@@ -8,49 +10,73 @@ enum-known-c : tie.Need-enum-known-c
 enum-known-c c = search needs
 
 begin-requires : tie.Need-begin-requires
-begin-requires c κs = search needs
+begin-requires c κs =
+    let s = c .before .before .before in
+    let a = s .args in
+    ready (a .d) (a .value .now) (a .seen .now) (a .mark .now) (a .claim .now) (a .standing .now) (a .content .now) (a .wct .now) no-tally (s .pre .2) (s .pre .0)
 
 enum-known-c-2 : tie.Need-enum-known-c-2
 enum-known-c-2 c = search needs
 
 read-requires : tie.Need-read-requires
-read-requires c κs = search needs
+read-requires c κs =
+    let s = c .before .before .before .before .before .before .before .before .before .before in
+    let a = s .args in
+    (ready (a .d) (a .value .now) (a .seen .now) (a .mark .now) (a .claim .now) (a .standing .now) (a .content .now) (a .wct .now) no-tally (s .pre .2) (s .pre .0), s .pre .1 .value, s .pre .1 .seen, s .pre .1 .mark)
 
 enum-known-c-3 : tie.Need-enum-known-c-3
 enum-known-c-3 c = search needs
 
 write-requires : tie.Need-write-requires
-write-requires c κs = search needs
+write-requires c κs =
+    let s = c .before .before .before .before .before .before in
+    let a = s .args in
+    (ready (a .d) (a .value .now) (a .seen .now) (a .mark .now) (a .claim .now) (a .standing .now) (a .content .now) (a .wct .now) no-tally (s .pre .2) (s .pre .0), s .pre .1 .value, s .pre .1 .mark)
 
 enum-known-c-4 : tie.Need-enum-known-c-4
 enum-known-c-4 c = search needs
 
 submit-requires : tie.Need-submit-requires
-submit-requires c κs = search needs
+submit-requires c κs =
+    let s = c .before .before .before .before .before in
+    let a = s .args in
+    (ready (a .d) (a .value .now) (a .seen .now) (a .mark .now) (a .claim .now) (a .standing .now) (a .content .now) (a .wct .now) no-tally (s .pre .2) (s .pre .0), s .pre .1 .claim)
 
 enum-known-c-5 : tie.Need-enum-known-c-5
 enum-known-c-5 c = search needs
 
 take-requires : tie.Need-take-requires
-take-requires c κs = search needs
+take-requires c κs =
+    let s = c .before .before .before .before .before .before .before in
+    let a = s .args in
+    (ready (a .d) (a .value .now) (a .seen .now) (a .mark .now) (a .claim .now) (a .standing .now) (a .content .now) (a .wct .now) no-tally (s .pre .2) (s .pre .0), s .pre .1 .standing)
 
 enum-known-c-6 : tie.Need-enum-known-c-6
 enum-known-c-6 c = search needs
 
 decide-requires : tie.Need-decide-requires
-decide-requires c κs = search needs
+decide-requires c κs =
+    let s = c .before .before .before .before .before .before in
+    let a = s .args in
+    (ready (a .d) (a .value .now) (a .seen .now) (a .mark .now) (a .claim .now) (a .standing .now) (a .content .now) (a .wct .now) no-tally (s .pre .2) (s .pre .0), s .pre .1 .mark)
 
 enum-known-c-7 : tie.Need-enum-known-c-7
 enum-known-c-7 c = search needs
 
 apply-requires : tie.Need-apply-requires
-apply-requires c κs = search needs
+apply-requires c κs =
+    let s = c .before .before .before .before .before .before .before .before .before in
+    let a = s .args in
+    (ready (a .d) (a .value .now) (a .seen .now) (a .mark .now) (a .claim .now) (a .standing .now) (a .content .now) (a .wct .now) no-tally (s .pre .2) (s .pre .0), s .pre .1 .standing, s .pre .1 .content, s .pre .1 .wct, rising (a .d) (a .value .now) (a .seen .now) (a .mark .now) (a .claim .now) (a .standing .now) (a .content .now) (a .wct .now) no-tally (s .pre .2) (s .pre .1 .wct))
 
 enum-known-c-8 : tie.Need-enum-known-c-8
 enum-known-c-8 c = search needs
 
 give-up-requires : tie.Need-give-up-requires
-give-up-requires c κs = search needs
+give-up-requires c κs =
+    let s = c .before .before .before in
+    let a = s .args in
+    ready (a .d) (a .value .now) (a .seen .now) (a .mark .now) (a .claim .now) (a .standing .now) (a .content .now) (a .wct .now) no-tally (s .pre .2) (s .pre .0)
 
 returns : tie.Need-returns
 returns c =
@@ -67,7 +93,7 @@ returns-2 c =
     let a = s .args in
     let z = s .pre .1 in (
       rw (c .before .before .before .before .before .before .before .before .before .c2 .given .1) (c .read .ensures .0),
-      (record { value = c .read .ensures .1 .0; seen = c .read .ensures .1 .1; mark = c .read .ensures .1 .2; claim = z .claim; standing = z .standing; content = z .content; wct = z .wct }, s .pre .0 .fits),
+      (record { value = c .read .ensures .1 .0; seen = c .read .ensures .1 .1; mark = c .read .ensures .1 .2; claim = z .claim; standing = z .standing; content = z .content; wct = z .wct }, s .pre .0),
     )
 
 returns-3 : tie.Need-returns-3
@@ -76,7 +102,7 @@ returns-3 c =
     let a = s .args in
     let z = s .pre .1 in (
       rw (c .before .before .before .before .before .c3 .given .1) (c .write .ensures .0 (a .seen .now) (a .standing .now) (a .content .now) (a .wct .now)),
-      (record { value = c .write .ensures .1 .0; seen = z .seen; mark = c .write .ensures .1 .1; claim = z .claim; standing = z .standing; content = z .content; wct = z .wct }, s .pre .0 .fits),
+      (record { value = c .write .ensures .1 .0; seen = z .seen; mark = c .write .ensures .1 .1; claim = z .claim; standing = z .standing; content = z .content; wct = z .wct }, s .pre .0),
     )
 
 returns-4 : tie.Need-returns-4
@@ -112,7 +138,7 @@ returns-7 c =
     let a = s .args in
     let z = s .pre .1 in (
       rw (c .before .before .before .before .before .before .before .before .c7 .given .1) (c .apply .ensures .0 (a .seen .now)),
-      (record { value = z .value; seen = z .seen; mark = z .mark; claim = z .claim; standing = c .apply .ensures .1 .0; content = c .apply .ensures .1 .1; wct = c .apply .ensures .1 .2 }, s .pre .0 .fits),
+      (record { value = z .value; seen = z .seen; mark = z .mark; claim = z .claim; standing = c .apply .ensures .1 .0; content = c .apply .ensures .1 .1; wct = c .apply .ensures .1 .2 }, s .pre .0),
     )
 
 returns-8 : tie.Need-returns-8

@@ -52,7 +52,7 @@ returns-4 c =
     let r = s .pre .0 in (
       (λ seen.
           rw (c .carry-out .ensures .0, c .carry-out .ensures .1)
-          (apply-steps (a .t1) (a .value .now) seen (a .mark .now) (a .claim .now) (a .standing .now) (a .content .now) (a .wct .now) (a .n) (a .t) r (c .before .before .before .before .before .before .before .before .if2 .left) (s .pre .1) (omega (arith, r .nodes8))
+          (apply-steps (a .t1) (a .value .now) seen (a .mark .now) (a .claim .now) (a .standing .now) (a .content .now) (a .wct .now) (a .n) (a .t) r (c .before .before .before .before .before .before .before .before .if2 .left) (s .pre .1) (omega (arith, r .nodes8, c .before .before .before .before .before .before .before .before .before .if1 .left))
           (c .before .before .before .before .before .before .before .before .before .if1 .left) (c .before .before .before .before .before .before .if3 .left) (s .pre .2) (s .pre .3) (sym (c .before .before .before .if4 .taken) ∙ c .before .before .before .before .has-entry .ensures))),
       (search needs, rw (c .carry-out .ensures .0, length-fill) (s .pre .2), rw (c .carry-out .ensures .1, length-fill) (s .pre .3)),
     )

@@ -3,18 +3,18 @@ use Prim.Native.Nat.{ℕ, _+_, _*_, _<_}
 use mathlib.Core.Path.{_≡_, refl, sym, _∙_}
 use mathlib.Core.Bool.{true, false}
 use native.Mathlib.Omega.{arith}
-use lib.ListN.{length, getD, set}
+use lib.ListN.{getD, set, length-set}
 use borrow.Author.Tests.{le-ltb}
 use Rattle.state.specs.Places.{at}
 use Rattle.state.specs.declared.Verdict.the-variants.{Valid, Invalid}
 use Rattle.state.proofs.Steps.{refused}
-use Rattle.nodes.proofs.Joins.{take-9, take-steps, failed-set, failed-keep}
+use Rattle.nodes.proofs.Joins.{take-9, take-steps, failed-set, failed-keep, took-shaped}
 use borrow.Author.Needs.{needs}
 use Rattle.nodes.proofs.take.Statement.{statement}
 use Rattle.nodes.proofs.take.Tie as tie
 
 returns : tie.Need-returns
-returns c = ((λ value mark content. refused (λ tally. simp (le-ltb _ _ (c .if1 .taken)))), (search needs, c .before .pre .0 .fits))
+returns c = ((λ value mark content. refused (λ tally. simp (le-ltb _ _ (c .if1 .taken)))), (search needs, c .before .pre .0 .shaped))
 
 element-copy-out-p : tie.Need-element-copy-out-p
 element-copy-out-p c = search needs
@@ -23,8 +23,7 @@ returns-2 : tie.Need-returns-2
 returns-2 c =
     let s = c .before .before .before in
     let a = s .args in
-    let lo : length (a .t1 .order) ≡ 32 = (let g = s .good .0 .1 .1 .1 .1 .1 .1 .1 .1 .1 .0 in search needs) in
-    ((λ value mark content. take-9 (a .t1) lo (s .pre .0) value (a .seen .now) mark (a .claim .now) (a .standing .now) content (a .wct .now) (a .n) (c .before .before .if1 .left) (c .if2 .taken)), (search needs, s .pre .0 .fits))
+    ((λ value mark content. take-9 (a .t1) (s .pre .0) value (a .seen .now) mark (a .claim .now) (a .standing .now) content (a .wct .now) (a .n) (c .before .before .if1 .left) (c .if2 .taken)), (search needs, s .pre .0 .shaped))
 
 cast-pi : tie.Need-cast-pi
 cast-pi c = search needs
@@ -72,14 +71,11 @@ returns-3 c =
     let r = s .pre .0 in
     let h : getD (d .taken) (a .n) 0 < d .placed = c .before .before .before .before .if2 .left in
     let t = at (d .order) (getD (d .taken) (a .n) 0) in
-    let t32 = r .small (getD (d .taken) (a .n) 0) h in
-    let lo : length (d .order) ≡ 32 = (let g = s .good .0 .1 .1 .1 .1 .1 .1 .1 .1 .1 .0 in search needs) in
-    let lt : length (d .taken) ≡ 8 = (let g = s .good .0 .1 .1 .1 .1 .1 .1 .1 .1 .1 .1 .1 .0 in search needs) in
-    let lf : length (d .failed) ≡ 32 = (let g = s .good .0 .1 .1 .1 .1 .1 .1 .1 .0 in search needs) in (
+    let t32 = r .small (getD (d .taken) (a .n) 0) h in (
       (λ value mark content.
-          take-steps d lo r (a .claim .now) (a .standing .now) (a .n) (omega (arith, r .nodes8)) lt (s .pre .1) h value (a .seen .now) mark content (a .wct .now) (set (d .failed) t 1) true Invalid
-          (c .before .before .before .before .before .before .if1 .left) (sym (c .if3 .taken) ∙ c .before .finds-invalid .ensures) refl (failed-set (d .failed) t (omega arith))),
-      (search needs, r .fits),
+          take-steps d r (a .claim .now) (a .standing .now) (a .n) (omega (arith, r .nodes8)) (s .pre .1) h value (a .seen .now) mark content (a .wct .now) (set (d .failed) t 1) true Invalid
+          (c .before .before .before .before .before .before .if1 .left) (sym (c .if3 .taken) ∙ c .before .finds-invalid .ensures) refl (failed-set (d .failed) t (rw (r .shaped .failed) t32))),
+      (search needs, took-shaped d (set (d .failed) t 1) (a .n) (r .shaped) (rw length-set (r .shaped .failed))),
     )
 
 returns-4 : tie.Need-returns-4
@@ -90,14 +86,11 @@ returns-4 c =
     let r = s .pre .0 in
     let h : getD (d .taken) (a .n) 0 < d .placed = c .before .before .before .before .if2 .left in
     let t = at (d .order) (getD (d .taken) (a .n) 0) in
-    let t32 = r .small (getD (d .taken) (a .n) 0) h in
-    let lo : length (d .order) ≡ 32 = (let g = s .good .0 .1 .1 .1 .1 .1 .1 .1 .1 .1 .0 in search needs) in
-    let lt : length (d .taken) ≡ 8 = (let g = s .good .0 .1 .1 .1 .1 .1 .1 .1 .1 .1 .1 .1 .0 in search needs) in
-    let lf : length (d .failed) ≡ 32 = (let g = s .good .0 .1 .1 .1 .1 .1 .1 .1 .0 in search needs) in (
+    let t32 = r .small (getD (d .taken) (a .n) 0) h in (
       (λ value mark content.
-          take-steps d lo r (a .claim .now) (a .standing .now) (a .n) (omega (arith, r .nodes8)) lt (s .pre .1) h value (a .seen .now) mark content (a .wct .now) (d .failed) false Valid
+          take-steps d r (a .claim .now) (a .standing .now) (a .n) (omega (arith, r .nodes8)) (s .pre .1) h value (a .seen .now) mark content (a .wct .now) (d .failed) false Valid
           (c .before .before .before .before .before .before .if1 .left) (sym (c .if3 .left) ∙ c .before .finds-invalid .ensures) refl (failed-keep (d .failed) t)),
-      (search needs, r .fits),
+      (search needs, took-shaped d (d .failed) (a .n) (r .shaped) (r .shaped .failed)),
     )
 
 pub take-spec : {M : Type 1} → statement M

@@ -2,16 +2,16 @@
 use Prim.Native.Nat.{_<_}
 use mathlib.Core.Path.{_≡_}
 use native.Mathlib.Omega.{arith}
-use lib.ListN.{length}
+use lib.ListN.{length-set}
 use borrow.Author.Tests.{le-ltb}
 use Rattle.state.proofs.Steps.{refused}
-use Rattle.saves.proofs.Phases.{begin-5, begin-steps}
+use Rattle.saves.proofs.Phases.{begin-5, begin-steps, saves-shaped}
 use borrow.Author.Needs.{needs}
 use Rattle.saves.proofs.begin.Statement.{statement}
 use Rattle.saves.proofs.begin.Tie as tie
 
 returns : tie.Need-returns
-returns c = ((λ value seen mark claim standing content wct. refused (λ tally. simp (le-ltb _ _ (c .if1 .taken)))), c .before .pre .fits)
+returns c = ((λ value seen mark claim standing content wct. refused (λ tally. simp (le-ltb _ _ (c .if1 .taken)))), c .before .pre .shaped)
 
 element-copy-out-p : tie.Need-element-copy-out-p
 element-copy-out-p c = search needs
@@ -19,7 +19,7 @@ element-copy-out-p c = search needs
 returns-2 : tie.Need-returns-2
 returns-2 c =
     let s = c .before .before .before in
-    ((λ value seen mark claim standing content wct. begin-5 (s .args .t1) value seen mark claim standing content wct (s .args .t) (c .before .before .if1 .left) (c .if2 .taken)), s .pre .fits)
+    ((λ value seen mark claim standing content wct. begin-5 (s .args .t1) value seen mark claim standing content wct (s .args .t) (c .before .before .if1 .left) (c .if2 .taken)), s .pre .shaped)
 
 element-copy-out-r : tie.Need-element-copy-out-r
 element-copy-out-r c = search needs
@@ -35,10 +35,10 @@ element-write-d-2 c = search needs
 
 returns-3 : tie.Need-returns-3
 returns-3 c =
-    let s = c .before .before .before .before in
-    let lp : length (s .args .t1 .phase) ≡ 32 = search needs in
-    let lr : length (s .args .t1 .runs) ≡ 32 = search needs in
-    ((λ value seen mark claim standing content wct. begin-steps (s .args .t1) value seen mark claim standing content wct (s .args .t) (c .before .before .before .if1 .left) lp lr (c .before .if2 .left)), s .pre .fits)
+    let s = c .before .before .before .before in (
+      (λ value seen mark claim standing content wct. begin-steps (s .args .t1) value seen mark claim standing content wct (s .args .t) (c .before .before .before .if1 .left) (s .pre .shaped) (c .before .if2 .left)),
+      saves-shaped (s .args .t1) _ _ (s .pre .shaped) (rw length-set (s .pre .shaped .phase)) (rw length-set (s .pre .shaped .runs)),
+    )
 
 pub begin-spec : {M : Type 1} → statement M
 begin-spec =

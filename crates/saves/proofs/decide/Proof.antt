@@ -2,17 +2,18 @@
 use Prim.Native.Nat.{_<_}
 use mathlib.Core.Path.{_≡_, sym, _∙_}
 use native.Mathlib.Omega.{arith}
-use lib.ListN.{length}
+use lib.ListN.{length-set}
 use borrow.Author.Tests.{le-ltb, not-true, not-false}
 use Rattle.state.proofs.Stores.{length-fill}
 use Rattle.state.proofs.Steps.{refused}
+use Rattle.saves.proofs.Phases.{saves-shaped}
 use Rattle.saves.proofs.Decisions.{decide-5, decide-10, decide-commits, decide-second}
 use borrow.Author.Needs.{needs}
 use Rattle.saves.proofs.decide.Statement.{statement}
 use Rattle.saves.proofs.decide.Tie as tie
 
 returns : tie.Need-returns
-returns c = ((λ value seen content wct. refused (λ tally. simp (le-ltb _ _ (c .if1 .taken)))), (search needs, c .before .pre .0 .fits))
+returns c = ((λ value seen content wct. refused (λ tally. simp (le-ltb _ _ (c .if1 .taken)))), (search needs, c .before .pre .0 .shaped))
 
 element-copy-out-p : tie.Need-element-copy-out-p
 element-copy-out-p c = search needs
@@ -22,7 +23,7 @@ returns-2 c =
     let s = c .before .before .before in
     let a = s .args in (
       (λ value seen content wct. decide-5 (a .t1) value seen (a .mark .now) (a .claim .now) (a .standing .now) content wct (a .t) (c .before .before .if1 .left) (c .if2 .taken)),
-      (search needs, s .pre .0 .fits),
+      (search needs, s .pre .0 .shaped),
     )
 
 decidable-requires : tie.Need-decidable-requires
@@ -33,7 +34,7 @@ returns-3 c =
     let s = c .before .before .before .before .before in
     let a = s .args in (
       (λ value seen content wct. decide-10 (a .t1) value seen (a .mark .now) (a .claim .now) (a .standing .now) content wct (a .t) (c .before .before .before .before .if1 .left) (c .before .before .if2 .left) (sym (c .before .decidable .ensures) ∙ not-true _ (c .if3 .taken))),
-      (search needs, s .pre .0 .fits),
+      (search needs, s .pre .0 .shaped),
     )
 
 element-copy-out-f : tie.Need-element-copy-out-f
@@ -45,10 +46,9 @@ element-write-d c = search needs
 returns-4 : tie.Need-returns-4
 returns-4 c =
     let s = c .before .before .before .before .before .before .before in
-    let a = s .args in
-    let lp : length (s .args .t1 .phase) ≡ 32 = (let g = s .good .0 .1 .1 .1 .1 .1 .1 .0 in search needs) in (
-      (λ value seen content wct. decide-commits (a .t1) value seen (a .mark .now) (a .claim .now) (a .standing .now) content wct (a .t) (c .before .before .before .before .before .before .if1 .left) (c .before .before .before .before .if2 .left) lp (sym (c .before .before .before .decidable .ensures) ∙ not-false _ (c .before .before .if3 .left)) (c .if4 .taken)),
-      (search needs, s .pre .0 .fits),
+    let a = s .args in (
+      (λ value seen content wct. decide-commits (a .t1) value seen (a .mark .now) (a .claim .now) (a .standing .now) content wct (a .t) (c .before .before .before .before .before .before .if1 .left) (c .before .before .before .before .if2 .left) (s .pre .0 .shaped) (sym (c .before .before .before .decidable .ensures) ∙ not-false _ (c .before .before .if3 .left)) (c .if4 .taken)),
+      (search needs, saves-shaped (a .t1) _ _ (s .pre .0 .shaped) (rw length-set (s .pre .0 .shaped .phase)) (s .pre .0 .shaped .runs)),
     )
 
 clear-row-requires : tie.Need-clear-row-requires
@@ -69,11 +69,12 @@ element-write-d-3 c = search needs
 returns-5 : tie.Need-returns-5
 returns-5 c =
     let s = c .before .before .before .before .before .before .before .before .before .before in
-    let a = s .args in
-    let lp : length (s .args .t1 .phase) ≡ 32 = (let g = s .good .0 .1 .1 .1 .1 .1 .1 .0 in search needs) in
-    let lr : length (s .args .t1 .runs) ≡ 32 = (let g = s .good .0 .1 .1 .1 .1 .1 .1 .1 .1 .0 in search needs) in (
-      (λ value seen content wct. rw (c .before .clear-row .ensures) (decide-second (a .t1) value seen (a .mark .now) (a .claim .now) (a .standing .now) content wct (a .t) (c .before .before .before .before .before .before .before .before .before .if1 .left) (c .before .before .before .before .before .before .before .if2 .left) lp (sym (c .before .before .before .before .before .before .decidable .ensures) ∙ not-false _ (c .before .before .before .before .before .if3 .left)) (c .before .before .before .if4 .left) (s .pre .1) lr)),
-      (rw (c .before .clear-row .ensures, length-fill) (s .pre .1), s .pre .0 .fits),
+    let a = s .args in (
+      (λ value seen content wct. rw (c .before .clear-row .ensures) (decide-second (a .t1) value seen (a .mark .now) (a .claim .now) (a .standing .now) content wct (a .t) (c .before .before .before .before .before .before .before .before .before .if1 .left) (c .before .before .before .before .before .before .before .if2 .left) (s .pre .0 .shaped) (sym (c .before .before .before .before .before .before .decidable .ensures) ∙ not-false _ (c .before .before .before .before .before .if3 .left)) (c .before .before .before .if4 .left) (s .pre .1))),
+      (
+        rw (c .before .clear-row .ensures, length-fill) (s .pre .1),
+        saves-shaped (a .t1) _ _ (s .pre .0 .shaped) (rw length-set (s .pre .0 .shaped .phase)) (rw length-set (s .pre .0 .shaped .runs)),
+      ),
     )
 
 pub decide-spec : {M : Type 1} → statement M

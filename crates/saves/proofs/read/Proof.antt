@@ -80,7 +80,7 @@ element-copy-out-upto : tie.Need-element-copy-out-upto
 element-copy-out-upto c = omega (arith, c .before .before .before .before .before .before .before .before .before .before .before .pre .0 .owners (c .before .before .before .before .before .before .before .before .before .before .before .args .k))
 
 cast-upto : tie.Need-cast-upto
-cast-upto c = omega (arith, c .before .before .before .before .before .before .before .before .before .before .before .before .pre .0 .takens (getD (c .before .before .before .before .before .before .before .before .before .before .before .before .args .t1 .owner) (c .before .before .before .before .before .before .before .before .before .before .before .before .args .k) 0), c .before .before .before .before .before .before .before .before .before .before .before .before .pre .0 .fits)
+cast-upto c = omega (arith, c .before .before .before .before .before .before .before .before .before .before .before .before .pre .0 .takens (getD (c .before .before .before .before .before .before .before .before .before .before .before .before .args .t1 .owner) (c .before .before .before .before .before .before .before .before .before .before .before .before .args .k) 0), c .before .before .before .before .before .before .before .before .before .before .before .before .pre .0 .shaped .fits)
 
 blocked-requires : tie.Need-blocked-requires
 blocked-requires c κs =

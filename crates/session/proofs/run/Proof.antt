@@ -14,7 +14,6 @@ use Rattle.session.proofs.run.Reads as reads
 use Rattle.session.proofs.run.Lts as lts
 use Rattle.engine.proofs.step.Reads as step-reads
 use Rattle.session.proofs.closed.Reads as closed-reads
-use Rattle.session.proofs.control_after.Reads as control-after-reads
 use Rattle.session.proofs.refusal.Reads as refusal-reads
 use Rattle.session.proofs.told.Reads as told-reads
 use Rattle.state.proofs.Session.fresh.Reads as fresh-reads
@@ -46,7 +45,7 @@ loop-holds c =
     let a = c .before .before .before .before .before .before .before .before .before .before .before .before in
     let f = c .before .before .before .before .before .before .before .before .before .fresh in
     let t : figures (c .new .result) ≡ no-tally = (λ i. record { accepted = c .new .ensures .0 i; from-first = c .new .ensures .1 i; from-second = c .new .ensures .2 i }) in
-    starts _ _ _ (opening (a .args .session .now) (a .args .nodes) (a .args .sheets) (a .pre)) _ _ (rw (c .before .before .before .before .before .before .before .before .before .before .owners .ensures) at (f .ensures .0)) (f .ensures .1 .0) t (f .ensures .1 .1)
+    starts _ _ _ (opening (a .args .session .now) (a .args .nodes) (a .args .sheets) (a .pre)) _ _ (rw (c .before .before .before .before .before .before .before .before .before .before .owners .ensures) at (f .ensures .0)) t (record { shaped = f .ensures .1 .0; sized = f .ensures .1 .1 })
 
 sub-read-next : tie.Need-sub-read-next Inv-loop μ-loop
 sub-read-next c = search needs
@@ -70,9 +69,6 @@ step-requires c κs =
     let o = opening (s .args .session .now) (s .args .nodes) (s .args .sheets) (s .pre) .opened-well in
     let x = arrays (l .d) (l .value) (l .seen) (l .mark) (l .claim) (l .standing) (l .content) (l .wct) in
     ready (s .args .session .now) o x (l .tally) (l .last) (l .at) (l .inv)
-
-control-after-requires : tie.Need-control-after-requires Inv-loop μ-loop
-control-after-requires c κs = search needs
 
 refusal-requires : tie.Need-refusal-requires Inv-loop μ-loop
 refusal-requires c κs = search needs
@@ -99,10 +95,9 @@ returns c =
     let n = c .before .before .before .before .before .before .before .before .before .before .before .before .before .next .given in
     let h = fits (s .args .session .now) o x (l .tally) (l .last) (l .at) (l .inv) _ (c .before .before .before .before .before .before .before .before .before .before .before .before .before .before .before .read-next .ensures) _ _ (n .1) in
     let t = c .before .before .before .before .step in
-    let d = c .before .before .before .control-after in
-    let y = arrays (d .result) (t .last .1 .0) (t .last .1 .1 .0) (t .last .1 .1 .1 .0) (t .last .1 .1 .1 .1 .0) (t .last .1 .1 .1 .1 .1 .0) (t .last .1 .1 .1 .1 .1 .1 .0) (t .last .1 .1 .1 .1 .1 .1 .1 .0) in
-    let z : Sizes y = record { fits = rw (d .ensures .0) (t .ensures .1 .1); long = d .ensures .1; sized = t .ensures .1 .0 } in
-    rw (c .closed .ensures, c .before .before .refusal .ensures) (stops (s .args .session .now) o x (l .tally) (l .last) (l .at) (l .inv) _ (c .before .before .before .before .before .before .before .before .before .before .before .before .before .before .before .read-next .ensures) _ _ (n .1) y _ (rw (← (d .ensures .0)) at (t .ensures .0)) z (λ e. c .before .if1 .taken (c .before .before .refusal .ensures ∙ e)))
+    let y = arrays (t .result .control) (t .last .1 .0) (t .last .1 .1 .0) (t .last .1 .1 .1 .0) (t .last .1 .1 .1 .1 .0) (t .last .1 .1 .1 .1 .1 .0) (t .last .1 .1 .1 .1 .1 .1 .0) (t .last .1 .1 .1 .1 .1 .1 .1 .0) in
+    let z : Sizes y = record { shaped = t .ensures .1 .1; sized = t .ensures .1 .0 } in
+    rw (c .closed .ensures, c .before .before .refusal .ensures) (stops (s .args .session .now) o x (l .tally) (l .last) (l .at) (l .inv) _ (c .before .before .before .before .before .before .before .before .before .before .before .before .before .before .before .read-next .ensures) _ _ (n .1) y _ (t .ensures .0) z (λ e. c .before .if1 .taken (c .before .before .refusal .ensures ∙ e)))
 
 advanced-requires : tie.Need-advanced-requires Inv-loop μ-loop
 advanced-requires c κs =
@@ -154,10 +149,9 @@ loop-again c =
     let n = c .before .before .before .before .before .before .before .before .before .before .before .before .before .before .next .given in
     let h = fits (s .args .session .now) o x (l .tally) (l .last) (l .at) (l .inv) _ (c .before .before .before .before .before .before .before .before .before .before .before .before .before .before .before .before .read-next .ensures) _ _ (n .1) in
     let t = c .before .before .before .before .before .step in
-    let d = c .before .before .before .before .control-after in
-    let y = arrays (d .result) (t .last .1 .0) (t .last .1 .1 .0) (t .last .1 .1 .1 .0) (t .last .1 .1 .1 .1 .0) (t .last .1 .1 .1 .1 .1 .0) (t .last .1 .1 .1 .1 .1 .1 .0) (t .last .1 .1 .1 .1 .1 .1 .1 .0) in
-    let z : Sizes y = record { fits = rw (d .ensures .0) (t .ensures .1 .1); long = d .ensures .1; sized = t .ensures .1 .0 } in
-    rw (c .told .ensures) (goes-on (s .args .session .now) o x (l .tally) (l .last) (l .at) (l .inv) _ (c .before .before .before .before .before .before .before .before .before .before .before .before .before .before .before .before .read-next .ensures) _ _ (n .1) y _ (rw (← (d .ensures .0)) at (t .ensures .0)) z (sym (c .before .before .before .refusal .ensures) ∙ c .before .before .if1 .left) _ (c .before .advanced .ensures))
+    let y = arrays (t .result .control) (t .last .1 .0) (t .last .1 .1 .0) (t .last .1 .1 .1 .0) (t .last .1 .1 .1 .1 .0) (t .last .1 .1 .1 .1 .1 .0) (t .last .1 .1 .1 .1 .1 .1 .0) (t .last .1 .1 .1 .1 .1 .1 .1 .0) in
+    let z : Sizes y = record { shaped = t .ensures .1 .1; sized = t .ensures .1 .0 } in
+    rw (c .told .ensures) (goes-on (s .args .session .now) o x (l .tally) (l .last) (l .at) (l .inv) _ (c .before .before .before .before .before .before .before .before .before .before .before .before .before .before .before .before .read-next .ensures) _ _ (n .1) y _ (t .ensures .0) z (sym (c .before .before .before .refusal .ensures) ∙ c .before .before .if1 .left) _ (c .before .advanced .ensures))
 
 enum-told : tie.Need-enum-told Inv-loop μ-loop
 enum-told c = search needs
@@ -232,7 +226,6 @@ run-spec =
     read-next-requires
     enum-known-next
     step-requires
-    control-after-requires
     refusal-requires
     add-t41
     closed-requires

@@ -22,7 +22,7 @@ stands-requires : tie.Need-stands-requires
 stands-requires c κs =
     let s = c .before .before .before .before in
     let z = s .pre .0 .takens (s .args .n) in
-    (s .pre .1, s .pre .2, omega (arith, s .pre .0 .fits))
+    (s .pre .1, s .pre .2, omega (arith, s .pre .0 .shaped .fits))
 
 claims-here-requires : tie.Need-claims-here-requires
 claims-here-requires c κs = search needs

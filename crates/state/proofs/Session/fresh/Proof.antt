@@ -3,8 +3,10 @@ use Prim.Native.Nat.{ℕ, zero, suc, _+_, _*_}
 use mathlib.Core.Path.{_≡_, refl, fun-ext}
 use mathlib.Core.Bool.{Bool, true, false, cond}
 use mathlib.Core.List.{List}
-use lib.ListN.{getD, replicate, length-replicate}
+use native.Mathlib.Omega.{arith}
+use lib.ListN.{getD, replicate}
 use lib.Dec.{ltb}
+use borrow.Author.Needs.{needs}
 use Rattle.rules.specs.State.{fresh}
 use Rattle.state.specs.declared.Control.{Control}
 use Rattle.state.specs.Places.{entries}
@@ -65,16 +67,8 @@ returns c = (
   }) (replicate 2048 0) (replicate 2048 0) (replicate 2048 0) (replicate 2048 0) (replicate 256 0) (replicate 64 0) (replicate 64 0)
       refl (zeros 32) (zeros 32) (zeros 32) (zeros 32) (zeros 8) (zeros 2048) (zeros 2048) (zeros 2048) (zeros 2048) (zeros 64) (zeros 64),
   (
-    length-replicate {A = ℕ} 32 0,
-    record {
-      value = length-replicate {A = ℕ} 2048 0;
-      seen = length-replicate {A = ℕ} 2048 0;
-      mark = length-replicate {A = ℕ} 2048 0;
-      claim = length-replicate {A = ℕ} 2048 0;
-      standing = length-replicate {A = ℕ} 256 0;
-      content = length-replicate {A = ℕ} 64 0;
-      wct = length-replicate {A = ℕ} 64 0;
-    },
+    record { owner = search needs; phase = refl; failed = refl; runs = refl; order = refl; place = refl; taken = refl; fits = omega arith },
+    record { value = refl; seen = refl; mark = refl; claim = refl; standing = refl; content = refl; wct = refl },
   ),
 )
 
