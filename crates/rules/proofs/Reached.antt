@@ -3,6 +3,7 @@ use Prim.Native.Nat.{ℕ, zero, suc, _+_, _≤_, _<_}
 use mathlib.Core.Path.{_≡_, refl, sym, ap, _∙_}
 use mathlib.Core.Bool.{Bool, true, false, true≢false, cond}
 use mathlib.Core.Logic.{_≢_}
+use mathlib.Core.List.{List, [], _∷_}
 use mathlib.Core.Option.{Option, none}
 use native.Mathlib.Omega.{arith}
 use native.Mathlib.Nat.{le-refl, not-suc-le-zero}
@@ -13,12 +14,12 @@ use Rattle.rules.specs.Table.{upd, any}
 use Rattle.rules.specs.Sizes.{max-saves}
 use Rattle.rules.specs.Bytes.{Header, Command, Begin, Read, Write, Submit, Take, Decide, Apply, GiveUp}
 use Rattle.rules.specs.State.{Sheet, store, Tally, State, fresh, is-first}
-use Rattle.rules.specs.Steps.{check, Checked, pass, refuse, counted, counted-first, counted-second, submit-save, decide-save, receives, effect, answer, step-by, step}
+use Rattle.rules.specs.Steps.{check, Checked, pass, refuse, counted, counted-first, counted-second, submit-save, decide-save, receives, effect, answer, step-by, step, run}
 use Rattle.rules.specs.Serial.{History, no-history, says-again, hear, reads-after}
 use Rattle.rules.proofs.Table.{bool, same?, clash, upd-same, upd-other, upd-at, any-at, any-none, cond-at}
 use Rattle.rules.proofs.Places.{at}
 use Rattle.rules.proofs.Invariant.{joined, Inv}
-use Rattle.rules.proofs.Accepted.{keeps, starts}
+use Rattle.rules.proofs.Accepted.{keeps, starts, run-accepts, run-refuses}
 
 -- ---- Figures: no WCT and no count of saves is above the count of accepted commands
 
@@ -89,6 +90,15 @@ reached-step s c v = go (check s c) refl
       figures = effect-counted s (v .figures) c;
     }
     go (refuse n) e = v
+
+pub reached-run : (cs : List Command) (s : State) → Reached s → Reached (run s cs .state)
+unfolding run
+reached-run [] s v = v
+reached-run (c ∷ cs) s v = go (check s c) refl (reached-run cs) (reached-step s c v)
+  where
+    go : (x : Checked) → check s c ≡ x → ((s′ : State) → Reached s′ → Reached (run s′ cs .state)) → Reached (step-by (check s c) s c .state) → Reached (run s (c ∷ cs) .state)
+    go pass e f r = rw (run-accepts s c cs e) (f (effect s c) (rw e at r))
+    go (refuse n) e f r = rw (run-refuses s c cs n e) v
 
 -- ---- The order never outgrows the saves
 

@@ -9,7 +9,8 @@ use Rattle.rules.specs.State.{State, fresh}
 use Rattle.rules.specs.Steps.{check, pass, refuse, effect, answer, Ran, run}
 use Rattle.rules.specs.Calls.{stop-by, step-at, stop-if, stop, Reply, no-command, answers, refusal, last-of, reply-by, reply}
 use Rattle.rules.specs.Report.{state-lines, stop-line, report-if, report}
-use Rattle.rules.proofs.Accepted.{run-accepts, run-refuses}
+use Rattle.rules.proofs.Accepted.{run-accepts, run-refuses, header-after}
+use Rattle.rules.proofs.Reached.{Reached, reached-fresh, reached-run}
 
 -- the state at the end, the stop, and the last accepted command's answer
 pub record Final : Type 0 where
@@ -68,11 +69,24 @@ module _ (b : List ℕ) (o : opens b ≡ true) where
   unfolding report final
   report-final = rw (o, stop-final)
 
+-- what holds at a session's end
+pub final-reached : (b : List ℕ) → Reached (session-final b .state)
+unfolding final
+final-reached b = reached-run (commands-of (reading b)) (fresh (header b)) (reached-fresh (header b))
+
+pub final-header : (b : List ℕ) → session-final b .state .header ≡ header b
+unfolding final
+final-header b = header-after (header b) (commands-of (reading b))
+
 -- a session that earns refusal 1
 module _ (b : List ℕ) (o : opens b ≡ false) where
   pub stop-unopened : stop b ≡ stopped 0 1 0
   unfolding stop
   stop-unopened = rw o
+
+  pub reply-unopened : reply b ≡ refusal 0 1
+  unfolding reply
+  reply-unopened = rw stop-unopened
 
   pub report-unopened : report b ≡ stop-line (stopped 0 1 0)
   unfolding report
