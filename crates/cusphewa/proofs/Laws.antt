@@ -1,5 +1,5 @@
 -- The calls' needs, each as one law in plain variables.
-use Prim.Native.Nat.{ℕ, zero, suc, _+_, _-_, _≤_, _<_}
+use Prim.Native.Nat.{ℕ, zero, suc, _+_, _-_, _*_, _≤_, _<_}
 use mathlib.Core.Path.{_≡_, refl, sym, ap, _∙_}
 use mathlib.Core.Bool.{Bool, true, false}
 use mathlib.Core.List.{List, [], _∷_, _++_}
@@ -7,17 +7,20 @@ use native.Mathlib.Omega.{arith}
 use borrow.Author.Tests.{ne-eqb, lt-ltb, le-ltb}
 use lib.ListN.{length, getD, take, drop, length-take}
 use lib.Seq.{getD-take}
-use Rattle.rules.specs.Bytes.{header, opens, ended, stopped}
-use Rattle.rules.specs.State.{State}
+use Rattle.rules.specs.Bytes.{header, opens, reading, ended, stopped}
+use Rattle.rules.specs.State.{State, fresh}
+use Rattle.rules.specs.Steps.{Event, run}
 use Rattle.rules.specs.Calls as calls
 use Rattle.rules.specs.Report.{letter, state-lines, stop-line, refusal-line, report, Filled, report-call}
 use Rattle.rules.proofs.Table.{bool}
 use Rattle.rules.proofs.Reached.{Reached}
-use Rattle.rules.proofs.Sessions.{session-final, final-reached, final-header, stop-final, reply-final, report-final, stop-unopened, reply-unopened, report-unopened}
+use Rattle.rules.proofs.Sessions.{commands-of, final, session-final, final-reached, final-header, stop-final, reply-final, report-final, stop-unopened, reply-unopened, report-unopened}
 use Rattle.wire.specs.declared.Opened.the-variants.{Header, Bad}
 use Rattle.wire.specs.Meaning.{opened}
 use Rattle.wire.proofs.Header.{opens-has}
-use Rattle.state.specs.View.{as-phase, view}
+use Rattle.state.specs.declared.Verdict.{Verdict}
+use Rattle.state.specs.declared.Verdict.the-variants.{Valid, Invalid}
+use Rattle.state.specs.View.{as-phase, view, verdict-of}
 use Rattle.text.specs.Wrote.{Wrote}
 use Rattle.text.specs.Lines.{sheets-of, tally-of}
 use Rattle.text.proofs.Writing.{wrote-as, wrote-none, wrote-next, wrote-front}
@@ -25,11 +28,13 @@ use Rattle.rows.specs.Rows.{letter-of, rows-of, state-text}
 use Rattle.rows.proofs.Shown.{Shown, shown}
 use Rattle.session.specs.declared.Stop.{Stop}
 use Rattle.session.specs.declared.Stop.the-variants.{End, Refused}
+use Rattle.session.specs.declared.Reply.{Reply}
 use Rattle.session.specs.declared.Reply.the-variants as reply
 use Rattle.session.specs.declared.Ended.{Ended}
 use Rattle.session.specs.Meaning.{stop-of, reply-of}
 use Rattle.session.specs.Carried.{shows, Within, Carried}
 use Rattle.session.proofs.Needs.{Opening, opening}
+use Rattle.cusphewa.specs.Codes.{coded, verdict-code, answer-code, part-code, Near, NearReply}
 
 -- ---- The header
 
@@ -69,6 +74,19 @@ letter-same (suc (suc zero)) = refl
 letter-same (suc (suc (suc zero))) = refl
 letter-same (suc (suc (suc (suc zero)))) = refl
 letter-same (suc (suc (suc (suc (suc p))))) = rw (ne-eqb (suc (suc (suc (suc (suc p))))) 4 (λ e. omega arith), lt-ltb 4 (suc (suc (suc (suc (suc p))))) (omega arith))
+
+near-by : (n : ℕ) (s : Stop) → n ≤ 16384 → Within 16384 s → Near n s
+near-by n End l w = l
+near-by n (Refused p c k) l w = w
+
+-- the last accepted command's answer is no refusal
+last-of-none : (x : calls.Reply) (es : List Event) (p n : ℕ) → (x ≡ calls.refusal p n → ⊥) → calls.last-of x es ≡ calls.refusal p n → ⊥
+last-of-none x [] p n h e = h e
+last-of-none x (y ∷ es) p n h e = last-of-none (calls.answers (y .answer)) es p n (λ q. let z : _≡_ {A = ℕ} 0 1 = cc in omega arith) e
+
+final-last : (b : List ℕ) (p n : ℕ) → session-final b .last ≡ calls.refusal p n → ⊥
+unfolding final
+final-last b p n e = last-of-none calls.no-command (run (fresh (header b)) (commands-of (reading b)) .events) p n (λ q. let z : _≡_ {A = ℕ} 0 1 = cc in omega arith) e
 
 module _ (b : List ℕ) (nodes sheets : ℕ) (o : Opening b nodes sheets) (r : Ended) (v : Carried b r) where
   abbrev s : State
@@ -128,6 +146,21 @@ module _ (b : List ℕ) (nodes sheets : ℕ) (o : Opening b nodes sheets) (r : E
   pub replies-refused : (p n k : ℕ) → r .stop ≡ Refused p n k → reply-of (reply.Refused p n) ≡ calls.reply b
   replies-refused p n k e = sym (replies ∙ rw e)
 
+  pub near : Near (length b) (r .stop)
+  near = near-by (length b) (r .stop) (opens-has b (o .opened-well) .0 .size) stop-small
+
+  pub near-last : NearReply (r .last)
+  near-last = go (r .last) (r .stop) (ap (λ f. f .last) (v .same))
+    where
+      go : (x : Reply) (st : Stop) → session-final b .last ≡ reply-of x → NearReply x
+      go reply.NoCommand st e = tt
+      go (reply.Accepted) st e = tt
+      go (reply.Content u) st e = tt
+      go (reply.Took t u) st e = tt
+      go reply.Commits st e = tt
+      go reply.SecondRun st e = tt
+      go (reply.Refused p n) st e = absurd (final-last b p n e)
+
 -- ---- Refusal 1
 
 module _ (b : List ℕ) (e : Bad ≡ opened b) where
@@ -151,6 +184,30 @@ module _ (b : List ℕ) (s : Stop) (e : stop-of s ≡ calls.stop b) where
   pub shown-part : (p n k : ℕ) → s ≡ Refused p n k → take (p + k - p) (drop p b) ≡ calls.shown b
   unfolding calls.part
   shown-part p n k q = let m : p + k - p ≡ k = omega arith in rw (← e, q, m)
+
+  pub coded-end : s ≡ End → length b * 4294967296 ≡ part-code (calls.part b)
+  unfolding calls.part
+  coded-end q = rw (← e, q) (omega arith)
+
+  pub coded-part : (p n k : ℕ) → s ≡ Refused p n k → p * 4294967296 + k ≡ part-code (calls.part b)
+  unfolding calls.part
+  coded-part p n k q = rw (← e, q)
+
+pub near-end : (n : ℕ) (s : Stop) → s ≡ End → Near n s → n ≤ 16384
+near-end n s q w = rw q at w
+
+pub near-part : (n : ℕ) (s : Stop) (p c k : ℕ) → s ≡ Refused p c k → Near n s → p + k ≤ 16384
+near-part n s p c k q w = rw q at w
+
+pub near-refused : (r : Reply) (p c : ℕ) → r ≡ reply.Refused p c → NearReply r → p ≤ 16384
+near-refused r p c q w = rw q at w
+
+pub told : (b : List ℕ) (r x : Reply) {n : ℕ} → reply-of r ≡ calls.reply b → r ≡ x → n ≡ answer-code (reply-of x) → n ≡ answer-code (calls.reply b)
+told b r x e q c = c ∙ ap answer-code (ap reply-of (sym q) ∙ e)
+
+pub verdict-small : (v : Verdict) → verdict-code (verdict-of v) < 8
+verdict-small Valid = omega arith
+verdict-small Invalid = omega arith
 
 -- ---- The buffer
 

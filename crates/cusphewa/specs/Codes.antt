@@ -1,24 +1,46 @@
 -- Answers and parts as numbers, for the host.
-use Prim.Native.Nat.{ℕ, _+_, _*_, _^_}
+use Prim.Native.Nat.{ℕ, _+_, _*_, _≤_}
 use Rattle.rules.specs.Steps.{Verdict, valid, invalid, Answer, accepted, content-is, took, commits, second-run}
-use Rattle.rules.specs.Calls.{Reply, no-command, answers, refusal, Part}
+use Rattle.rules.specs.Calls as calls
+use Rattle.rules.specs.Calls.{no-command, answers, refusal, Part}
+use Rattle.session.specs.declared.Stop.{Stop}
+use Rattle.session.specs.declared.Stop.the-variants.{End, Refused}
+use Rattle.session.specs.declared.Reply.{Reply}
+use Rattle.session.specs.declared.Reply.the-variants as reply
 
--- kind, value and number
-abbrev pub code : ℕ → ℕ → ℕ → ℕ
-code kind value number = kind * 2 ^ 48 + value * 2 ^ 8 + number
+-- kind * 2^48 + value * 2^8 + number
+abbrev pub coded : (kind value number : ℕ) → ℕ
+coded kind value number = kind * 281474976710656 + value * 256 + number
 
 abbrev pub verdict-code : Verdict → ℕ
 verdict-code valid = 3
 verdict-code invalid = 4
 
-abbrev pub answer-code : Reply → ℕ
-answer-code no-command = code 0 0 0
-answer-code (answers accepted) = code 1 0 0
-answer-code (answers (content-is v)) = code 2 v 0
-answer-code (answers (took t v)) = code (verdict-code v) t 0
-answer-code (answers commits) = code 5 0 0
-answer-code (answers second-run) = code 6 0 0
-answer-code (refusal p n) = code 7 p n
+abbrev pub answer-code : calls.Reply → ℕ
+answer-code no-command = coded 0 0 0
+answer-code (answers accepted) = coded 1 0 0
+answer-code (answers (content-is v)) = coded 2 v 0
+answer-code (answers (took t v)) = coded (verdict-code v) t 0
+answer-code (answers commits) = coded 5 0 0
+answer-code (answers second-run) = coded 6 0 0
+answer-code (refusal p n) = coded 7 p n
 
+-- offset * 2^32 + size
 abbrev pub part-code : Part → ℕ
-part-code p = p .from * 2 ^ 32 + p .size
+part-code p = p .from * 4294967296 + p .size
+
+-- ---- Sizes that fit the numbers
+
+-- a run that stops at its end had a session of at most 16,384 bytes, and so had one that stops at a refusal
+abbrev pub Near : ℕ → Stop → Type 0
+Near n End = n ≤ 16384
+Near n (Refused p c k) = p + k ≤ 16384
+
+abbrev pub NearReply : Reply → Type 0
+NearReply reply.NoCommand = Unit {0}
+NearReply reply.Accepted = Unit {0}
+NearReply (reply.Content v) = Unit {0}
+NearReply (reply.Took t v) = Unit {0}
+NearReply reply.Commits = Unit {0}
+NearReply reply.SecondRun = Unit {0}
+NearReply (reply.Refused p c) = p ≤ 16384

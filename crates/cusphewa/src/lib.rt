@@ -4,7 +4,7 @@ use session::Stop;
 use state::Verdict;
 use wire::Opened;
 ghost use mathlib.Core.Path.{_≡_};
-ghost use Prim.Native.Nat.{_+_, _≤_};
+ghost use Prim.Native.Nat.{_+_, _<_, _≤_};
 ghost use lib.ListN.{length};
 ghost use Rattle.rules.specs.Demand3.{SessionDemand3};
 ghost use Rattle.rules.specs.Calls as calls;
@@ -14,7 +14,8 @@ ghost use Rattle.wire.specs.Meaning.{opened};
 ghost use Rattle.wire.specs.declared.Opened.the-variants.{Header};
 ghost use Rattle.session.specs.Meaning.{stop-of, reply-of};
 ghost use Rattle.session.specs.Carried.{Within};
-ghost use Rattle.cusphewa.specs.Codes.{verdict-code, answer-code, part-code};
+ghost use Rattle.state.specs.View.{verdict-of};
+ghost use Rattle.cusphewa.specs.Codes.{coded, verdict-code, answer-code, part-code, Near, NearReply};
 
 // ---- The report
 
@@ -82,6 +83,7 @@ pub extern "C" fn cusphewa_report(session: &[u8], report: &mut [u8]) -> usize
 // The last command's answer, or the refusal.
 pub fn last_answer(session: &[u8]) -> Reply
     ensures { λ r. ⌜ reply-of r ≡ calls.reply (now (session .entry)) ⌝ }
+    ensures near { λ r. ⌜ NearReply r ⌝ }
 {
     let header = wire::read_header(session);
     match header {
@@ -101,7 +103,7 @@ pub fn last_answer(session: &[u8]) -> Reply
 
 // Where a session stops.
 fn stop_of(session: &[u8]) -> Stop
-    ensures { λ r. ⌜ (stop-of r ≡ calls.stop (now (session .entry))) × Within (length (now (session .entry))) r ⌝ }
+    ensures { λ r. ⌜ (stop-of r ≡ calls.stop (now (session .entry))) × Within (length (now (session .entry))) r × Near (length (now (session .entry))) r ⌝ }
 {
     let header = wire::read_header(session);
     match header {
@@ -127,5 +129,54 @@ pub fn shown(session: &[u8]) -> &[u8]
             let e = p + k;
             &session[p..e]
         }
+    }
+}
+
+// ---- Numbers for the host
+
+// A kind, a value and a number in one.
+fn code(kind: u64, value: u64, number: u8) -> u64
+    requires { ⌜ (kind < 8) × (value < 4294967296) ⌝ }
+    ensures { λ r. ⌜ r ≡ coded kind value number ⌝ }
+{
+    kind * 281474976710656 + value * 256 + number as u64
+}
+
+// The kind of a TAKE's answer.
+fn take_kind(v: Verdict) -> u64
+    ensures { λ r. ⌜ r ≡ verdict-code (verdict-of v) ⌝ }
+{
+    match v {
+        Verdict::Valid => 3,
+        Verdict::Invalid => 4,
+    }
+}
+
+// The answer of a call on a session, for the host.
+#[no_mangle]
+pub extern "C" fn cusphewa_answer(session: &[u8]) -> u64
+    ensures { λ r. ⌜ r ≡ answer-code (calls.reply (now (session .entry))) ⌝ }
+{
+    let answer = last_answer(session);
+    match answer {
+        Reply::NoCommand => code(0, 0, 0),
+        Reply::Accepted => code(1, 0, 0),
+        Reply::Content(v) => code(2, v as u64, 0),
+        Reply::Took(t, v) => code(take_kind(v), t as u64, 0),
+        Reply::Commits => code(5, 0, 0),
+        Reply::SecondRun => code(6, 0, 0),
+        Reply::Refused(p, n) => code(7, p as u64, n),
+    }
+}
+
+// The part shown, for the host: its offset and its size in one.
+#[no_mangle]
+pub extern "C" fn cusphewa_shown(session: &[u8]) -> u64
+    ensures { λ r. ⌜ r ≡ part-code (calls.part (now (session .entry))) ⌝ }
+{
+    let stop = stop_of(session);
+    match stop {
+        Stop::End => session.len() as u64 * 4294967296,
+        Stop::Refused(p, _, k) => p as u64 * 4294967296 + k as u64,
     }
 }

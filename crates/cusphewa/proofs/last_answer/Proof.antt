@@ -1,6 +1,7 @@
 use mathlib.Core.Path.{sym, _∙_}
+use native.Mathlib.Omega.{arith}
 use Rattle.session.proofs.Needs.{opening}
-use Rattle.cusphewa.proofs.Laws.{reply-bad, replies-last, replies-refused}
+use Rattle.cusphewa.proofs.Laws.{reply-bad, replies-last, replies-refused, near-last, offset-small, stop-small}
 use borrow.Author.Needs.{needs}
 use Rattle.cusphewa.proofs.last_answer.Statement.{statement}
 use Rattle.cusphewa.proofs.last_answer.Tie as tie
@@ -35,15 +36,20 @@ enum-known-stop c = search needs
 
 -- src/lib.rt:83:1
 returns : tie.Need-returns
-returns c = reply-bad _ (sym (c .enum-told .given .1) ∙ c .before .before .read-header .ensures)
+returns c = (reply-bad _ (sym (c .enum-told .given .1) ∙ c .before .before .read-header .ensures), omega arith)
 
 -- src/lib.rt:83:1
 returns-2 : tie.Need-returns-2
-returns-2 c = replies-last _ _ _ (opening _ _ _ (sym (c .before .before .before .before .header .given .1) ∙ c .before .before .before .before .before .before .read-header .ensures)) _ (c .before .before .run .ensures) (c .enum-told2 .given .1)
+returns-2 c =
+    let o = opening _ _ _ (sym (c .before .before .before .before .header .given .1) ∙ c .before .before .before .before .before .before .read-header .ensures) in
+    (replies-last _ _ _ o _ (c .before .before .run .ensures) (c .enum-told2 .given .1), near-last _ _ _ o _ (c .before .before .run .ensures))
 
 -- src/lib.rt:83:1
 returns-3 : tie.Need-returns-3
-returns-3 c = replies-refused _ _ _ (opening _ _ _ (sym (c .before .before .before .before .before .header .given .1) ∙ c .before .before .before .before .before .before .before .read-header .ensures)) _ (c .before .before .before .run .ensures) _ _ _ (c .before .stop .given .1)
+returns-3 c =
+    let o = opening _ _ _ (sym (c .before .before .before .before .before .header .given .1) ∙ c .before .before .before .before .before .before .before .read-header .ensures) in
+    let v = c .before .before .before .run .ensures in
+    (replies-refused _ _ _ o _ v _ _ _ (c .before .stop .given .1), offset-small _ _ _ _ (c .before .stop .given .1) (stop-small _ _ _ o _ v))
 
 pub last-answer-spec : {M : Type 1} → statement M
 last-answer-spec =

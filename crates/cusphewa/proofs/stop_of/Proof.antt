@@ -1,7 +1,7 @@
 use mathlib.Core.Path.{sym, _∙_}
 use native.Mathlib.Omega.{arith}
 use Rattle.session.proofs.Needs.{opening}
-use Rattle.cusphewa.proofs.Laws.{stop-bad, stops-at}
+use Rattle.cusphewa.proofs.Laws.{stop-bad, stops-at, near}
 use borrow.Author.Needs.{needs}
 use Rattle.cusphewa.proofs.stop_of.Statement.{statement}
 use Rattle.cusphewa.proofs.stop_of.Tie as tie
@@ -28,11 +28,13 @@ run-requires c κs = sym (c .before .header .given .1) ∙ c .before .before .be
 
 -- src/lib.rt:103:1
 returns : tie.Need-returns
-returns c = (stop-bad _ (sym (c .enum-told .given .1) ∙ c .before .before .read-header .ensures), omega arith)
+returns c = (stop-bad _ (sym (c .enum-told .given .1) ∙ c .before .before .read-header .ensures), omega arith, omega arith)
 
 -- src/lib.rt:103:1
 returns-2 : tie.Need-returns-2
-returns-2 c = (stops-at _ _ _ (opening _ _ _ (sym (c .before .before .header .given .1) ∙ c .before .before .before .before .read-header .ensures)) _ (c .run .ensures), c .run .ensures .within)
+returns-2 c =
+    let o = opening _ _ _ (sym (c .before .before .header .given .1) ∙ c .before .before .before .before .read-header .ensures) in
+    (stops-at _ _ _ o _ (c .run .ensures), c .run .ensures .within, near _ _ _ o _ (c .run .ensures))
 
 pub stop-of-spec : {M : Type 1} → statement M
 stop-of-spec =
