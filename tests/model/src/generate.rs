@@ -2,7 +2,7 @@
 //! damaged ones.
 
 use crate::command::{Command, Header, MOST_BYTES, MOST_NODES, MOST_SAVES, MOST_SHEETS};
-use crate::engine::{Engine, Phase};
+use crate::engine::{Engine, Phase, Save};
 use crate::prng::Prng;
 
 /// One fuzz input: a session, and the report buffer as it stands before the call.
@@ -41,11 +41,29 @@ struct Plan {
     length: usize,
     /// The weights of BEGIN, READ, WRITE, SUBMIT, TAKE, DECIDE, APPLY, GIVE UP.
     weights: [usize; 8],
+    /// Do the weights change on the way?
+    moods: bool,
     /// A refused command is kept once in so many; 0 for never.
     keep_refused: usize,
+    /// A refusal to end with, looked for once the session has so many bytes.
+    wanted: Option<(u8, usize)>,
     /// The sheets that most READs and WRITEs go to.
     hot: usize,
 }
+
+/// Rare APPLYs make long queues, rare SUBMITs large claims, rare TAKEs lagging nodes; many saves
+/// that run at once and then are taken one after the other make second runs.
+const MOODS: [[usize; 8]; 6] = [
+    [20, 30, 20, 2, 1, 1, 1, 1],
+    [4, 8, 8, 24, 3, 1, 1, 1],
+    [1, 4, 3, 3, 30, 3, 1, 1],
+    [1, 16, 14, 8, 10, 24, 5, 1],
+    [2, 14, 10, 4, 8, 12, 24, 1],
+    [8, 24, 16, 8, 16, 14, 14, 1],
+];
+
+/// A save runs twice at most, so only READs and WRITEs can fill a long session.
+const LONG: [usize; 8] = [3, 400, 300, 4, 24, 14, 14, 1];
 
 fn header(prng: &mut Prng, nodes: usize, sheets: usize) -> Header {
     // A node that owns nothing only moves its place in the order; it must occur too.
@@ -55,46 +73,57 @@ fn header(prng: &mut Prng, nodes: usize, sheets: usize) -> Header {
 }
 
 fn plan(prng: &mut Prng) -> Plan {
-    let (nodes, sheets, saves, length) = match prng.below(20) {
-        0..=6 => (prng.between(1, 3), prng.between(1, 3), prng.between(2, 5), 400),
-        7..=12 => (prng.between(1, 4), prng.between(1, 6), prng.between(3, 10), 1_000),
-        13..=15 => (prng.between(1, MOST_NODES), prng.between(2, 12), prng.between(6, 32), 2_500),
-        16 => (prng.between(1, MOST_NODES), prng.between(1, MOST_SHEETS), MOST_SAVES, 4_000),
-        17 => (MOST_NODES, MOST_SHEETS, MOST_SAVES, 4_000),
-        18 => (prng.between(1, MOST_NODES), prng.between(1, 8), MOST_SAVES, MOST_BYTES),
+    let (nodes, sheets, saves, length) = match prng.below(40) {
+        0..=14 => (prng.between(1, 3), prng.between(1, 3), prng.between(2, 5), 400),
+        15..=27 => (prng.between(1, 4), prng.between(1, 6), prng.between(3, 10), 1_000),
+        28..=34 => (prng.between(1, MOST_NODES), prng.between(2, 12), prng.between(6, 32), 2_500),
+        35..=36 => (prng.between(1, MOST_NODES), prng.between(1, MOST_SHEETS), MOST_SAVES, 4_000),
+        37 => (MOST_NODES, MOST_SHEETS, MOST_SAVES, 5_000),
+        38 => (prng.between(1, MOST_NODES), prng.between(1, 8), MOST_SAVES, MOST_BYTES),
         _ => (MOST_NODES, MOST_SHEETS, MOST_SAVES, MOST_BYTES),
     };
-    // Rare APPLYs make long queues, rare SUBMITs large claims, rare TAKEs lagging nodes.
-    let mut weights = [8, 24, 16, 8, 16, 14, 14, 1];
-    for weight in &mut weights {
-        *weight = match prng.below(6) {
-            0 => 1 + *weight / 4,
-            1 => *weight * 3,
-            _ => *weight,
-        };
+    let long = length == MOST_BYTES;
+    let length = if long { length } else { prng.between(length / 8, length) };
+    let wanted = if prng.one_in(2) {
+        // The numbers that need a history are wanted more often than the others.
+        let number = prng.pick(&[2, 3, 4, 5, 6, 6, 7, 8, 8, 8, 9, 10, 10, 11]);
+        Some((number, prng.below(length)))
+    } else {
+        None
+    };
+    Plan {
+        header: header(prng, nodes, sheets),
+        saves,
+        length,
+        weights: if long { LONG } else { prng.pick(&MOODS) },
+        moods: !long,
+        keep_refused: prng.pick(&[0, 0, 0, 2_000, 300]),
+        wanted,
+        hot: prng.between(1, sheets.min(6)),
     }
-    if length == MOST_BYTES {
-        // A save runs twice at most, so only READs and WRITEs can fill a long session.
-        weights = [2, 400, 300, 4, 16, 14, 14, 1];
-        if prng.one_in(3) {
-            weights[3] = 1;
-        }
-    }
-    let length = if length == MOST_BYTES { length } else { prng.between(10, length) };
-    let keep_refused = prng.pick(&[0, 0, 0, 2_000, 300, 60]);
-    let hot = prng.between(1, sheets.min(6));
-    Plan { header: header(prng, nodes, sheets), saves, length, weights, keep_refused, hot }
 }
 
 pub fn guided(prng: &mut Prng) -> Vec<u8> {
-    let plan = plan(prng);
+    let mut plan = plan(prng);
     let mut engine = Engine::new(&plan.header);
     let mut session = plan.header.bytes();
     let mut in_vain = 0;
     while session.len() < plan.length && in_vain < 400 {
+        if plan.moods && prng.one_in(20) {
+            plan.weights = prng.pick(&MOODS);
+        }
+        if let Some((number, from)) = plan.wanted {
+            if session.len() >= from && prng.one_in(4) {
+                if let Some(end) = refused_with(prng, &plan, &engine, number) {
+                    session.extend(end);
+                    session.truncate(MOST_BYTES);
+                    return session;
+                }
+            }
+        }
         let command = candidate(prng, &plan, &engine);
         let bytes = command.bytes();
-        if session.len() + bytes.len() > MOST_BYTES {
+        if session.len() + bytes.len() > MOST_BYTES || ends_too_early(&plan, &engine, command) {
             in_vain += 1;
             continue;
         }
@@ -110,37 +139,48 @@ pub fn guided(prng: &mut Prng) -> Vec<u8> {
             Err(_) => in_vain += 1,
         }
     }
-    if session.len() < MOST_BYTES && prng.one_in(2) {
-        end_refused(prng, &plan, &mut engine, &mut session);
-    }
     session
 }
 
-/// Puts a command at the end that earns a chosen refusal, if one is found.
-fn end_refused(prng: &mut Prng, plan: &Plan, engine: &mut Engine, session: &mut Vec<u8>) {
-    let wanted = prng.between(2, 11) as u8;
-    let mut bytes = match wanted {
+/// A long session needs a running save to its end, or nothing could fill it.
+fn ends_too_early(plan: &Plan, engine: &Engine, command: Command) -> bool {
+    if plan.moods || !matches!(command, Command::Submit { .. } | Command::GiveUp { .. }) {
+        return false;
+    }
+    let can_fill = |save: &&Save| {
+        save.phase == Phase::FirstRun && !save.copies.is_empty()
+    };
+    engine.saves.iter().filter(can_fill).count() < 2
+}
+
+/// The bytes of a command that earns the refusal `number` now, if one is found.
+fn refused_with(prng: &mut Prng, plan: &Plan, engine: &Engine, number: u8) -> Option<Vec<u8>> {
+    let mut bytes = match number {
         2 => vec![prng.pick(&[0, 9, 10, 0x80, 0xff])],
         3 => {
             let mut cut = any_command(prng, plan).bytes();
             cut.truncate(prng.between(1, cut.len() - 1));
-            cut
+            return Some(cut);
         }
         4 => out_of_range(prng, plan),
         _ => {
-            let found = (0..600)
-                .map(|_| any_command(prng, plan))
-                .find(|&command| engine.refusal(command) == Some(wanted));
-            found.map_or(Vec::new(), |command| command.bytes())
+            let found = (0..20)
+                .map(|round| {
+                    if round % 2 == 0 {
+                        any_command(prng, plan)
+                    } else {
+                        candidate(prng, plan, engine)
+                    }
+                })
+                .find(|&command| engine.refusal(command) == Some(number));
+            found?.bytes()
         }
     };
-    if wanted != 3 && prng.one_in(3) {
+    if prng.one_in(3) {
         // What stands after the refused command must not be read.
         bytes.extend(any_command(prng, plan).bytes());
     }
-    if session.len() + bytes.len() <= MOST_BYTES {
-        session.extend(bytes);
-    }
+    Some(bytes)
 }
 
 fn out_of_range(prng: &mut Prng, plan: &Plan) -> Vec<u8> {
@@ -321,7 +361,7 @@ pub fn full(prng: &mut Prng) -> Vec<u8> {
     let mut plan = plan(prng);
     plan.header = header(prng, 4, 8);
     plan.saves = MOST_SAVES - 1;
-    plan.weights = [2, 400, 300, 4, 16, 14, 14, 1];
+    plan.weights = LONG;
     plan.hot = 4;
     let mut engine = Engine::new(&plan.header);
     let mut session = plan.header.bytes();
