@@ -54,12 +54,12 @@ struct Plan {
 /// Rare APPLYs make long queues, rare SUBMITs large claims, rare TAKEs lagging nodes; many saves
 /// that run at once and then are taken one after the other make second runs.
 const MOODS: [[usize; 8]; 6] = [
-    [20, 30, 20, 2, 1, 1, 1, 1],
-    [4, 8, 8, 24, 3, 1, 1, 1],
-    [1, 4, 3, 3, 30, 3, 1, 1],
-    [1, 16, 14, 8, 10, 24, 5, 1],
-    [2, 14, 10, 4, 8, 12, 24, 1],
-    [8, 24, 16, 8, 16, 14, 14, 1],
+    [12, 40, 30, 1, 1, 1, 1, 1],
+    [4, 30, 24, 12, 3, 1, 1, 1],
+    [1, 6, 6, 3, 30, 3, 1, 1],
+    [1, 20, 14, 6, 10, 24, 5, 1],
+    [2, 20, 14, 3, 8, 12, 24, 1],
+    [6, 40, 26, 5, 16, 14, 14, 1],
 ];
 
 /// A save runs twice at most, so only READs and WRITEs can fill a long session.
@@ -95,7 +95,7 @@ fn plan(prng: &mut Prng) -> Plan {
         header: header(prng, nodes, sheets),
         saves,
         length,
-        weights: if long { LONG } else { prng.pick(&MOODS) },
+        weights: if long { LONG } else { MOODS[0] },
         moods: !long,
         keep_refused: prng.pick(&[0, 0, 0, 2_000, 300]),
         wanted,
@@ -109,8 +109,13 @@ pub fn guided(prng: &mut Prng) -> Vec<u8> {
     let mut session = plan.header.bytes();
     let mut in_vain = 0;
     while session.len() < plan.length && in_vain < 400 {
-        if plan.moods && prng.one_in(20) {
+        if plan.moods && prng.one_in(24) {
             plan.weights = prng.pick(&MOODS);
+            if plan.saves > 16 {
+                // A crowd must come to its SUBMITs before the session ends.
+                plan.weights[0] *= 3;
+                plan.weights[3] *= 3;
+            }
         }
         if let Some((number, from)) = plan.wanted {
             if session.len() >= from && prng.one_in(4) {
@@ -241,20 +246,31 @@ fn candidate(prng: &mut Prng, plan: &Plan, engine: &Engine) -> Command {
         kind += 1;
     }
     let running = [Phase::FirstRun, Phase::SecondRun];
-    let sheet = if prng.one_in(5) {
-        prng.below(plan.header.sheets())
-    } else {
-        prng.below(plan.hot)
-    };
     let node = prng.below(plan.header.nodes);
     match kind {
         0 => Command::Begin { save: save_in(prng, plan, engine, &[Phase::Unused]) },
-        1 => Command::Read { save: save_in(prng, plan, engine, &running), sheet },
+        1 => {
+            let save = save_in(prng, plan, engine, &running);
+            let claim: Vec<usize> = engine.saves[save].claim.keys().copied().collect();
+            Command::Read { save, sheet: sheet_of(prng, plan, &claim) }
+        }
         2 => {
             let save = save_in(prng, plan, engine, &running);
+            let copies: Vec<usize> = engine.saves[save].copies.keys().copied().collect();
+            let sheet = sheet_of(prng, plan, &copies);
             Command::Write { save, sheet, content: content(prng) }
         }
-        3 => Command::Submit { save: save_in(prng, plan, engine, &running) },
+        3 => {
+            // Saves without copies have empty claims: a few of them are enough.
+            let first = save_in(prng, plan, engine, &running);
+            let full = |save: usize| !engine.saves[save].copies.is_empty();
+            let save = if full(first) || prng.one_in(4) {
+                first
+            } else {
+                save_in(prng, plan, engine, &running)
+            };
+            Command::Submit { save }
+        }
         4 => Command::Take { node },
         5 => Command::Decide { save: save_in(prng, plan, engine, &[Phase::Submitted]) },
         6 => {
@@ -262,6 +278,15 @@ fn candidate(prng: &mut Prng, plan: &Plan, engine: &Engine) -> Command {
             Command::Apply { node, save: save_in(prng, plan, engine, &ended) }
         }
         _ => Command::GiveUp { save: save_in(prng, plan, engine, &running) },
+    }
+}
+
+/// Mostly one of the fitting sheets, else a hot one, else any.
+fn sheet_of(prng: &mut Prng, plan: &Plan, fitting: &[usize]) -> usize {
+    match prng.below(8) {
+        0 => prng.below(plan.header.sheets()),
+        1..=5 if !fitting.is_empty() => prng.pick(fitting),
+        _ => prng.below(plan.hot),
     }
 }
 
