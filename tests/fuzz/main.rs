@@ -1,19 +1,21 @@
 //! Compares the engine, linked as a static library, with the model on seeded sessions, and checks
 //! demand 3 on each of them.
 //!
-//! `fuzz --sessions N --seed S [--prefixes] [--lengths]`
+//! `fuzz --sessions N --seed S [--prefixes] [--lengths] [--states]`
 //!
 //! `--prefixes` compares the answer after every command of every session, not of a share only;
-//! `--lengths` adds every length from 0 to 16,386 bytes. The end status is 1 on a difference, on a
+//! `--lengths` adds every length from 0 to 16,386 bytes; `--states` adds every command in every
+//! state that small sessions reach. The end status is 1 on a difference, on a
 //! broken demand, and where a run of 1,000 sessions or more has left out a refusal.
 
-use model::command::MOST_BYTES;
+use model::command::{Header, MOST_BYTES};
 use model::demand3::{self, Met};
 use model::engine::Answer;
 use model::generate::{self, Input};
 use model::prng::Prng;
 use model::report::{write_report, LEAST_BUFFER};
 use model::session::{coded_answer, Session};
+use model::states;
 use std::process::exit;
 
 mod engine {
@@ -75,6 +77,7 @@ struct Arguments {
     seed: u64,
     prefixes: bool,
     lengths: bool,
+    states: bool,
 }
 
 fn main() {
@@ -97,6 +100,15 @@ fn main() {
         }
         println!("lengths: 0 to {} bytes", MOST_BYTES + 2);
     }
+    if arguments.states {
+        for (nodes, owner, saves) in SMALL {
+            let header = Header { nodes, owner: owner.to_vec() };
+            if let Err(trouble) = every_state(&header, saves) {
+                println!("states: {trouble}");
+                exit(1);
+            }
+        }
+    }
     let missing = close(&counts);
     if arguments.sessions >= 1_000 && missing {
         exit(1);
@@ -104,10 +116,11 @@ fn main() {
 }
 
 fn arguments() -> Arguments {
-    let mut arguments = Arguments { sessions: 1_000, seed: 1, prefixes: false, lengths: false };
+    let mut arguments =
+        Arguments { sessions: 1_000, seed: 1, prefixes: false, lengths: false, states: false };
     let mut words = std::env::args().skip(1);
     let usage = || -> ! {
-        eprintln!("fuzz --sessions N --seed S [--prefixes] [--lengths]");
+        eprintln!("fuzz --sessions N --seed S [--prefixes] [--lengths] [--states]");
         exit(2)
     };
     while let Some(word) = words.next() {
@@ -117,6 +130,7 @@ fn arguments() -> Arguments {
             "--seed" => arguments.seed = figure().unwrap_or_else(|| usage()),
             "--prefixes" => arguments.prefixes = true,
             "--lengths" => arguments.lengths = true,
+            "--states" => arguments.states = true,
             _ => usage(),
         }
     }
@@ -151,6 +165,34 @@ fn every_length(seed: u64) -> Result<(), String> {
     Ok(())
 }
 
+/// Nodes, owners of the sheets, and saves, of which all states are tried.
+const SMALL: [(usize, &[usize], usize); 4] =
+    [(1, &[0], 2), (2, &[0], 2), (2, &[0, 1], 2), (1, &[0], 3)];
+const MOST_STATES: usize = 40_000;
+
+fn every_state(header: &Header, saves: usize) -> Result<(), String> {
+    let mut prng = Prng::new(1);
+    let mut buffer = vec![0; LEAST_BUFFER];
+    prng.fill(&mut buffer);
+    let mut tried = 0;
+    let (states, whole) = states::explore(header, saves, MOST_STATES, |session, new| {
+        tried += 1;
+        if new {
+            demand3::check(session, &mut prng).map_err(|trouble| {
+                format!("demand 3 in the model: {trouble}\n{}", shown(session))
+            })?;
+        }
+        compare(session, &Session::run(session), &buffer, &mut prng)
+    })?;
+    println!(
+        "states: {} nodes, {} sheets, {saves} saves: {tried} commands in {} {states} states",
+        header.nodes,
+        header.sheets(),
+        if whole { "all" } else { "the first" },
+    );
+    Ok(())
+}
+
 /// One session: the length, every byte of the buffer and around it, the answer, the part shown.
 fn compare(session: &[u8], run: &Session, buffer: &[u8], prng: &mut Prng) -> Result<(), String> {
     let mut expected = buffer.to_vec();
@@ -169,10 +211,16 @@ fn compare(session: &[u8], run: &Session, buffer: &[u8], prng: &mut Prng) -> Res
             session,
             &format!("buffer of {}", buffer.len()),
             &text(&expected, expected_length, expected.len()),
-            &text(written, length, expected.iter().zip(written).take_while(|(a, b)| a == b).count()),
+            &text(
+                written,
+                length,
+                expected.iter().zip(written).take_while(|(a, b)| a == b).count(),
+            ),
         ));
     }
-    if room[..GUARD] != before[..GUARD] || room[GUARD + buffer.len()..] != before[GUARD + buffer.len()..] {
+    if room[..GUARD] != before[..GUARD]
+        || room[GUARD + buffer.len()..] != before[GUARD + buffer.len()..]
+    {
         return Err(difference(session, "buffer", "left alone around it", "written around it"));
     }
     compare_answer(&input, run.answer(), run.shown())?;
@@ -235,9 +283,7 @@ fn count(session: &[u8], run: &Session, buffer: &[u8], met: Met, counts: &mut Co
         counts.first_commits += engine.tally.first_run_commits as u64;
         counts.second_commits += engine.tally.second_run_commits as u64;
         counts.all_saves += (engine.order.len() == 32) as u64;
-        let dropped = |&&save: &&usize| {
-            engine.saves[save].phase == model::engine::Phase::Dropped
-        };
+        let dropped = |&&save: &&usize| engine.saves[save].phase == model::engine::Phase::Dropped;
         counts.second_run_drops += engine.order.iter().filter(dropped).count() as u64;
         let longest = engine.sheets.iter().map(|sheet| sheet.queue.len()).max().unwrap_or(0);
         counts.longest_queue = counts.longest_queue.max(longest);
@@ -293,5 +339,10 @@ fn text(buffer: &[u8], length: usize, same: usize) -> String {
 }
 
 fn answer_text(answer: u64) -> String {
-    format!("kind {} value {} number {}", answer >> 48, (answer >> 8) & 0xff_ffff_ffff, answer & 0xff)
+    format!(
+        "kind {} value {} number {}",
+        answer >> 48,
+        (answer >> 8) & 0xff_ffff_ffff,
+        answer & 0xff
+    )
 }

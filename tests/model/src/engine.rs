@@ -3,7 +3,7 @@
 use crate::command::{Command, Header, MOST_SAVES};
 use std::collections::BTreeMap;
 
-#[derive(Clone, Copy, Debug, PartialEq, Eq)]
+#[derive(Clone, Copy, Debug, PartialEq, Eq, Hash)]
 pub enum Phase {
     Unused,
     FirstRun,
@@ -14,21 +14,21 @@ pub enum Phase {
 }
 
 /// S is shared, X exclusive.
-#[derive(Clone, Copy, Debug, PartialEq, Eq)]
+#[derive(Clone, Copy, Debug, PartialEq, Eq, Hash)]
 pub enum Lock {
     S,
     X,
 }
 
 /// A save's own copy of a sheet, made in its current or last run.
-#[derive(Clone, Copy, Debug, PartialEq, Eq)]
+#[derive(Clone, Copy, Debug, PartialEq, Eq, Hash)]
 pub struct Copy {
     pub content: u32,
     pub wct_seen: u32,
     pub written: bool,
 }
 
-#[derive(Clone, Debug, PartialEq, Eq)]
+#[derive(Clone, Debug, PartialEq, Eq, Hash)]
 pub struct Save {
     pub phase: Phase,
     pub runs: u32,
@@ -37,13 +37,13 @@ pub struct Save {
     pub failed: bool,
 }
 
-#[derive(Clone, Copy, Debug, PartialEq, Eq)]
+#[derive(Clone, Copy, Debug, PartialEq, Eq, Hash)]
 pub struct Entry {
     pub save: usize,
     pub lock: Lock,
 }
 
-#[derive(Clone, Debug, PartialEq, Eq)]
+#[derive(Clone, Debug, PartialEq, Eq, Hash)]
 pub struct Sheet {
     pub owner: usize,
     pub content: u32,
@@ -61,7 +61,7 @@ impl Sheet {
     }
 }
 
-#[derive(Clone, Copy, Debug, Default, PartialEq, Eq)]
+#[derive(Clone, Copy, Debug, Default, PartialEq, Eq, Hash)]
 pub struct Tally {
     pub accepted: u32,
     pub first_run_commits: u32,
@@ -69,7 +69,7 @@ pub struct Tally {
 }
 
 /// The answer of an accepted command.
-#[derive(Clone, Copy, Debug, PartialEq, Eq)]
+#[derive(Clone, Copy, Debug, PartialEq, Eq, Hash)]
 pub enum Answer {
     Accepted,
     Content(u32),
@@ -78,7 +78,7 @@ pub enum Answer {
     SecondRun,
 }
 
-#[derive(Clone, Debug, PartialEq, Eq)]
+#[derive(Clone, Debug, PartialEq, Eq, Hash)]
 pub struct Engine {
     pub sheets: Vec<Sheet>,
     pub saves: Vec<Save>,
@@ -170,7 +170,11 @@ impl Engine {
         if writer.phase == Phase::SecondRun && writer.claim.get(&sheet) != Some(&Lock::X) {
             return Some(8);
         }
-        if writer.copies.contains_key(&sheet) { None } else { Some(7) }
+        if writer.copies.contains_key(&sheet) {
+            None
+        } else {
+            Some(7)
+        }
     }
 
     /// Taken by every node that owns a claimed sheet, and all entries granted.
@@ -201,8 +205,7 @@ impl Engine {
             }
             Command::Read { save, sheet } => {
                 let owners = &self.sheets[sheet];
-                let fresh =
-                    Copy { content: owners.content, wct_seen: owners.wct, written: false };
+                let fresh = Copy { content: owners.content, wct_seen: owners.wct, written: false };
                 let own = self.saves[save].copies.entry(sheet).or_insert(fresh);
                 Answer::Content(own.content)
             }

@@ -152,9 +152,7 @@ fn ends_too_early(plan: &Plan, engine: &Engine, command: Command) -> bool {
     if plan.moods || !matches!(command, Command::Submit { .. } | Command::GiveUp { .. }) {
         return false;
     }
-    let can_fill = |save: &&Save| {
-        save.phase == Phase::FirstRun && !save.copies.is_empty()
-    };
+    let can_fill = |save: &&Save| save.phase == Phase::FirstRun && !save.copies.is_empty();
     engine.saves.iter().filter(can_fill).count() < 2
 }
 
@@ -293,7 +291,11 @@ fn sheet_of(prng: &mut Prng, plan: &Plan, fitting: &[usize]) -> usize {
 fn save_in(prng: &mut Prng, plan: &Plan, engine: &Engine, phases: &[Phase]) -> usize {
     let fit = |save: &usize| phases.contains(&engine.saves[*save].phase);
     let fitting: Vec<usize> = (0..plan.saves).filter(fit).collect();
-    if fitting.is_empty() { prng.below(plan.saves) } else { prng.pick(&fitting) }
+    if fitting.is_empty() {
+        prng.below(plan.saves)
+    } else {
+        prng.pick(&fitting)
+    }
 }
 
 /// A session that was right and has come to harm.
@@ -356,11 +358,7 @@ pub fn damaged(prng: &mut Prng) -> Vec<u8> {
         }
         _ => {
             // Noise of any length, with and without a right header.
-            let length = if prng.one_in(2) {
-                prng.below(MOST_BYTES + 3)
-            } else {
-                prng.below(80)
-            };
+            let length = if prng.one_in(2) { prng.below(MOST_BYTES + 3) } else { prng.below(80) };
             let keep = if prng.one_in(3) { 0 } else { 2 + session[1] as usize };
             session.truncate(keep);
             while session.len() < length {

@@ -12,6 +12,7 @@ pub mod prng;
 pub mod report;
 pub mod serial;
 pub mod session;
+pub mod states;
 
 #[cfg(test)]
 mod cases;
