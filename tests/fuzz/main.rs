@@ -139,21 +139,26 @@ fn arguments() -> Arguments {
 
 fn one_session(seed: u64, prefixes: bool, counts: &mut Counts) -> Result<(), String> {
     // Neighbouring seeds must not give neighbouring states.
-    let mut prng = Prng::new(Prng::new(seed).next());
+    let mut prng = Prng::new(Prng::new(seed).draw());
     let Input { session, buffer } = generate::input(&mut prng);
     let (run, met) = demand3::check(&session, &mut prng)
         .map_err(|trouble| format!("demand 3 in the model: {trouble}\n{}", shown(&session)))?;
-    compare(&session, &run, &buffer, &mut prng)?;
-    if prefixes || prng.one_in(4) {
-        counts.prefixes += compare_prefixes(&session, &run, &mut prng)?;
+    let mut compared = compare(&session, &run, &buffer, &mut prng);
+    if compared.is_ok() && (prefixes || prng.one_in(4)) {
+        compared =
+            compare_prefixes(&session, &run, &mut prng).map(|prefixes| counts.prefixes += prefixes);
     }
+    compared.map_err(|trouble| match smallest(&session, &buffer) {
+        Some(smaller) => format!("{trouble}\nsmaller: {smaller}"),
+        None => trouble,
+    })?;
     count(&session, &run, &buffer, met, counts);
     Ok(())
 }
 
 /// Cuts and extends one long session to every length that a call could be handed.
 fn every_length(seed: u64) -> Result<(), String> {
-    let mut prng = Prng::new(Prng::new(seed).next());
+    let mut prng = Prng::new(Prng::new(seed).draw());
     let mut longest = generate::full(&mut prng);
     longest.extend([2, 31]);
     for length in 0..=MOST_BYTES + 2 {
@@ -258,6 +263,37 @@ fn compare_prefixes(session: &[u8], run: &Session, prng: &mut Prng) -> Result<u6
         compare_answer(prefix, coded_answer(step.answer), (prefix.len(), 0))?;
     }
     Ok(places.len() as u64)
+}
+
+/// A smaller session that still differs: its first prefix that does, without the commands that do
+/// not matter.
+fn smallest(session: &[u8], buffer: &[u8]) -> Option<String> {
+    let trouble =
+        |bytes: &[u8]| compare(bytes, &Session::run(bytes), buffer, &mut Prng::new(0)).err();
+    let run = Session::run(session);
+    let mut cuts = vec![0];
+    cuts.extend(run.started.iter().map(|(header, _)| 2 + header.sheets()));
+    cuts.extend(run.steps.iter().map(|step| step.end));
+    cuts.push(session.len());
+    let end = cuts.iter().position(|&cut| trouble(&session[..cut]).is_some())?;
+    let mut pieces: Vec<&[u8]> =
+        cuts[..=end].windows(2).map(|cut| &session[cut[0]..cut[1]]).collect();
+    let mut size = pieces.len() / 2;
+    while size > 0 {
+        // The first piece is the header and stays.
+        let mut at = 1;
+        while at + size <= pieces.len() {
+            let mut fewer = pieces.clone();
+            fewer.drain(at..at + size);
+            if trouble(&fewer.concat()).is_some() {
+                pieces = fewer;
+            } else {
+                at += size;
+            }
+        }
+        size /= 2;
+    }
+    trouble(&pieces.concat())
 }
 
 fn count(session: &[u8], run: &Session, buffer: &[u8], met: Met, counts: &mut Counts) {

@@ -64,7 +64,7 @@ pub fn read_header(session: &[u8]) -> Option<Header> {
     }
     let nodes = session[0] as usize;
     let sheets = session[1] as usize;
-    if nodes < 1 || nodes > MOST_NODES || sheets < 1 || sheets > MOST_SHEETS {
+    if !(1..=MOST_NODES).contains(&nodes) || !(1..=MOST_SHEETS).contains(&sheets) {
         return None;
     }
     if session.len() < 2 + sheets {

@@ -230,7 +230,7 @@ fn content(prng: &mut Prng) -> u32 {
         3 => 10u32.pow(prng.below(10) as u32),
         4 => 10u32.pow(prng.below(10) as u32) - 1,
         5 => 1 << prng.below(32),
-        _ => (prng.next() as u32) >> prng.below(32),
+        _ => (prng.draw() as u32) >> prng.below(32),
     }
 }
 
@@ -373,7 +373,7 @@ pub fn damaged(prng: &mut Prng) -> Vec<u8> {
 /// A byte that is often a command byte or an operand in range.
 fn small_byte(prng: &mut Prng) -> u8 {
     match prng.below(4) {
-        0 => prng.next() as u8,
+        0 => prng.draw() as u8,
         1 => prng.below(3) as u8,
         _ => prng.below(10) as u8,
     }
