@@ -86,7 +86,7 @@ fn plan(prng: &mut Prng) -> Plan {
     let length = if long { length } else { prng.between(length / 8, length) };
     let wanted = if prng.one_in(2) {
         // The numbers that need a history are wanted more often than the others.
-        let number = prng.pick(&[2, 3, 4, 5, 6, 6, 7, 8, 8, 8, 9, 10, 10, 11]);
+        let number = prng.pick(&[2, 3, 4, 5, 5, 5, 6, 6, 7, 8, 8, 8, 9, 10, 10, 11]);
         Some((number, prng.below(length)))
     } else {
         None
