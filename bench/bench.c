@@ -1,0 +1,218 @@
+/* Times the engine against bench/plain.c in one run, on the same sessions.
+ *
+ * The two are timed in turns and the best turn of each counts, so that a busy machine slows
+ * neither one more than the other. */
+#define _POSIX_C_SOURCE 199309L
+#include <stdint.h>
+#include <stdio.h>
+#include <stdlib.h>
+#include <string.h>
+#include <time.h>
+
+size_t cusphewa_report(const uint8_t *session, size_t session_len, uint8_t *report, size_t report_len);
+size_t plain_report(const uint8_t *session, size_t session_len, uint8_t *report, size_t report_len);
+
+typedef size_t report_call(const uint8_t *, size_t, uint8_t *, size_t);
+
+enum { MOST_BYTES = 16384, BUFFER = 4096, SAVES = 32, NODES = 4, SHEETS = 16 };
+
+struct session {
+    const char *name;
+    uint8_t bytes[MOST_BYTES];
+    size_t length, commands;
+};
+
+static void put(struct session *s, size_t count, const uint8_t *bytes)
+{
+    if (count > MOST_BYTES - s->length) {
+        fprintf(stderr, "%s: the session is too long\n", s->name);
+        exit(1);
+    }
+    memcpy(s->bytes + s->length, bytes, count);
+    s->length += count;
+}
+
+static void command(struct session *s, size_t count, const uint8_t *bytes)
+{
+    put(s, count, bytes);
+    s->commands++;
+}
+
+#define COMMAND(s, ...) \
+    command(s, sizeof (uint8_t[]){ __VA_ARGS__ }, (uint8_t[]){ __VA_ARGS__ })
+
+static void header(struct session *s, const char *name, int nodes, int sheets)
+{
+    s->name = name;
+    s->length = s->commands = 0;
+    put(s, 2, (uint8_t[]){ (uint8_t)nodes, (uint8_t)sheets });
+    for (int k = 0; k < sheets; k++)
+        put(s, 1, (uint8_t[]){ (uint8_t)(k % nodes) });
+}
+
+static void read_sheet(struct session *s, int t, int k)
+{
+    COMMAND(s, 2, (uint8_t)t, (uint8_t)k);
+}
+
+static void write_sheet(struct session *s, int t, int k, uint32_t v)
+{
+    COMMAND(s, 3, (uint8_t)t, (uint8_t)k, (uint8_t)(v >> 24), (uint8_t)(v >> 16), (uint8_t)(v >> 8),
+            (uint8_t)v);
+}
+
+static void on_save(struct session *s, int byte, int t) { COMMAND(s, (uint8_t)byte, (uint8_t)t); }
+
+static void all_nodes_take(struct session *s)
+{
+    for (int n = 0; n < NODES; n++)
+        COMMAND(s, 5, (uint8_t)n);
+}
+
+static void all_nodes_apply(struct session *s, int t)
+{
+    for (int n = 0; n < NODES; n++)
+        COMMAND(s, 7, (uint8_t)n, (uint8_t)t);
+}
+
+static void read_and_write_all(struct session *s, int t)
+{
+    for (int k = 0; k < SHEETS; k++)
+        read_sheet(s, t, k);
+    for (int k = 0; k < SHEETS; k++)
+        write_sheet(s, t, k, (uint32_t)(t * 1000003 + k));
+}
+
+/* One save reads and writes its own copies until the session is full to the byte. */
+static void make_own(struct session *s)
+{
+    header(s, "own reads and writes", 1, SHEETS);
+    on_save(s, 1, 0);
+    for (int k = 0; k < SHEETS; k++)
+        read_sheet(s, 0, k);
+    for (int k = 0; s->length < MOST_BYTES; k = (k + 1) % SHEETS) {
+        size_t left = MOST_BYTES - s->length;
+        /* The last bytes must be a sum of threes and sevens. */
+        if (left > 40 ? s->commands % 2 : left % 3 == 0)
+            read_sheet(s, 0, k);
+        else
+            write_sheet(s, 0, k, (uint32_t)(s->length * 2654435761u));
+    }
+}
+
+static void make_serial(struct session *s)
+{
+    header(s, "serial saves", NODES, SHEETS);
+    for (int t = 0; t < SAVES; t++) {
+        on_save(s, 1, t);
+        read_and_write_all(s, t);
+        on_save(s, 4, t);
+        all_nodes_take(s);
+        on_save(s, 6, t);
+        all_nodes_apply(s, t);
+    }
+}
+
+/* All saves run at once on all sheets: the first commits, each other one runs twice. */
+static void make_conflict(struct session *s)
+{
+    header(s, "all in conflict", NODES, SHEETS);
+    for (int t = 0; t < SAVES; t++) {
+        on_save(s, 1, t);
+        read_and_write_all(s, t);
+    }
+    for (int t = 0; t < SAVES; t++)
+        on_save(s, 4, t);
+    for (int t = 0; t < SAVES; t++)
+        all_nodes_take(s);
+    for (int t = 0; t < SAVES; t++) {
+        on_save(s, 6, t);
+        if (t > 0) {
+            read_and_write_all(s, t);
+            on_save(s, 4, t);
+        }
+        all_nodes_apply(s, t);
+    }
+}
+
+static void make_w(struct session *s)
+{
+    static const uint8_t w[58] = {
+        2, 2, 0, 1, 1, 0, 1, 1, 2, 0, 0, 2, 1, 0, 3, 0, 0, 0, 0, 0, 7, 3, 1, 0, 0, 0, 0, 9, 4, 0,
+        4, 1, 5, 0, 5, 0, 6, 0, 7, 0, 0, 6, 1, 2, 1, 0, 3, 1, 0, 0, 0, 0, 9, 4, 1, 7, 0, 1,
+    };
+    s->name = "W";
+    s->length = 0;
+    put(s, sizeof w, w);
+    s->commands = 17;
+}
+
+static void make_empty(struct session *s) { header(s, "no commands", 1, 1); }
+
+static double now(void)
+{
+    struct timespec t;
+    clock_gettime(CLOCK_MONOTONIC, &t);
+    return (double)t.tv_sec * 1e9 + (double)t.tv_nsec;
+}
+
+static double turn(report_call *call, const struct session *s, int calls)
+{
+    static uint8_t report[BUFFER];
+    double start = now();
+    for (int i = 0; i < calls; i++) {
+        if (call(s->bytes, s->length, report, sizeof report) == 0)
+            exit(1);
+        /* The report counts as used, so that no call can be left out. */
+        __asm__ volatile("" : : "r"(report) : "memory");
+    }
+    return (now() - start) / calls;
+}
+
+/* Both must print the same report, without refusal, or the times mean nothing. */
+static void check(const struct session *s)
+{
+    static uint8_t one[BUFFER], two[BUFFER];
+    memset(one, 0x55, sizeof one);
+    memset(two, 0x55, sizeof two);
+    size_t length = cusphewa_report(s->bytes, s->length, one, sizeof one);
+    if (length != plain_report(s->bytes, s->length, two, sizeof two) || memcmp(one, two, BUFFER)) {
+        fprintf(stderr, "%s: the reports differ\n", s->name);
+        exit(1);
+    }
+    char tally[32];
+    snprintf(tally, sizeof tally, "\nT %zu ", s->commands);
+    one[length] = 0;
+    if (strstr((char *)one, "\nR ") || !strstr((char *)one, tally)) {
+        fprintf(stderr, "%s: not accepted whole\n", s->name);
+        exit(1);
+    }
+}
+
+int main(int count, char **words)
+{
+    static struct session s;
+    void (*const make[])(struct session *) = { make_own, make_serial, make_conflict, make_w, make_empty };
+    int turns = count > 1 ? atoi(words[1]) : 300;
+    printf("%-21s %6s %6s | %10s %8s | %10s %8s | %6s\n", "session", "bytes", "cmds", "engine ns",
+           "ns/cmd", "plain ns", "ns/cmd", "ratio");
+    for (size_t i = 0; i < sizeof make / sizeof *make; i++) {
+        make[i](&s);
+        check(&s);
+        /* A turn of about half a millisecond is long enough for the clock. */
+        int calls = 1 + (int)(5e5 / (turn(plain_report, &s, 20) + 1));
+        double engine = 1e18, plain = 1e18;
+        for (int j = 0; j < turns; j++) {
+            double time = turn(cusphewa_report, &s, calls);
+            if (time < engine)
+                engine = time;
+            time = turn(plain_report, &s, calls);
+            if (time < plain)
+                plain = time;
+        }
+        double commands = s.commands ? (double)s.commands : 1;
+        printf("%-21s %6zu %6zu | %10.1f %8.2f | %10.1f %8.2f | %6.2f\n", s.name, s.length, s.commands,
+               engine, engine / commands, plain, plain / commands, engine / plain);
+    }
+    return 0;
+}

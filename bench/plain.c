@@ -1,0 +1,356 @@
+/* A plain implementation of document 01 in C: arrays, no allocation, written for speed.
+ *
+ * Sets of sheets are 64-bit masks. Every node takes the saves in the one order, so the entries of
+ * a queue always stand in that order: a queue is a mask of places, with a second mask that says
+ * which of them are X. "An X before it" is then one AND.
+ */
+#include <stddef.h>
+#include <stdint.h>
+#include <string.h>
+
+enum { MOST_NODES = 8, MOST_SHEETS = 64, MOST_SAVES = 32, MOST_BYTES = 16384, LEAST_BUFFER = 4096 };
+
+enum { UNUSED, FIRST_RUN, SECOND_RUN, SUBMITTED, COMMITTED, DROPPED };
+
+enum { NO_COMMAND, ACCEPTED, CONTENT, VALID, INVALID, DECIDED, SECOND, REFUSED };
+
+struct save {
+    uint64_t copied, written; /* sheets with a copy from this run; those of them written */
+    uint64_t claim, claim_x;  /* the claim; where it is X */
+    uint64_t held;            /* sheets with an entry in the queue */
+    uint8_t phase, failed, place;
+};
+
+struct state {
+    uint32_t nodes, sheets, submitted;
+    uint32_t accepted, first_commits, second_commits;
+    uint64_t owned[MOST_NODES]; /* the sheets of each node */
+    uint8_t taken[MOST_NODES];  /* how many saves of the order each node has taken */
+    uint8_t order[MOST_SAVES];
+    struct save save[MOST_SAVES];
+    uint32_t content[MOST_SHEETS], wct[MOST_SHEETS];
+    uint32_t queue[MOST_SHEETS], queue_x[MOST_SHEETS];
+    /* Not cleared at the start: the masks say which copies there are. */
+    uint32_t copy[MOST_SAVES][MOST_SHEETS], seen[MOST_SAVES][MOST_SHEETS];
+};
+
+struct end {
+    uint32_t offset, shown;
+    uint32_t kind, value, number; /* as cusphewa_answer codes them */
+};
+
+/* Reads the header and clears what the masks do not cover; 0 for refusal 1. */
+static inline int start(struct state *s, const uint8_t *session, size_t length)
+{
+    if (length > MOST_BYTES || length < 2)
+        return 0;
+    uint32_t nodes = session[0], sheets = session[1];
+    if (nodes - 1 >= MOST_NODES || sheets - 1 >= MOST_SHEETS || length < 2 + sheets)
+        return 0;
+    memset(s->owned, 0, sizeof s->owned);
+    for (uint32_t k = 0; k < sheets; k++) {
+        uint32_t node = session[2 + k];
+        if (node >= nodes)
+            return 0;
+        s->owned[node] |= (uint64_t)1 << k;
+    }
+    s->nodes = nodes;
+    s->sheets = sheets;
+    s->submitted = s->accepted = s->first_commits = s->second_commits = 0;
+    memset(s->taken, 0, sizeof s->taken);
+    for (int t = 0; t < MOST_SAVES; t++)
+        s->save[t].phase = UNUSED;
+    memset(s->content, 0, sheets * sizeof *s->content);
+    memset(s->wct, 0, sheets * sizeof *s->wct);
+    memset(s->queue, 0, sheets * sizeof *s->queue);
+    memset(s->queue_x, 0, sheets * sizeof *s->queue_x);
+    return 1;
+}
+
+static inline struct end refuse(const uint8_t *session, const uint8_t *at, uint32_t shown, uint32_t number)
+{
+    uint32_t offset = (uint32_t)(at - session);
+    struct end end = { offset, shown, REFUSED, offset, number };
+    return end;
+}
+
+static inline struct end run(struct state *s, const uint8_t *session, size_t length)
+{
+    if (!start(s, session, length))
+        return refuse(session, session, 0, 1);
+    const uint8_t *at = session + 2 + s->sheets, *stop = session + length;
+    uint32_t kind = NO_COMMAND, value = 0, accepted = 0;
+    const uint32_t sheets = s->sheets;
+    uint32_t number = 0, size = 0;
+
+#define REFUSE(why) do { number = (why); goto refused; } while (0)
+#define NEEDS(bytes) do { size = (bytes); if ((size_t)(stop - at) < size) goto cut; } while (0)
+
+    for (; at < stop; at += size, accepted++) {
+        switch (at[0]) {
+        case 1: { /* BEGIN t */
+            NEEDS(2);
+            if (at[1] >= MOST_SAVES)
+                REFUSE(4);
+            struct save *t = &s->save[at[1]];
+            if (t->phase != UNUSED)
+                REFUSE(5);
+            t->copied = t->written = t->claim = t->claim_x = t->held = 0;
+            t->failed = 0;
+            t->phase = FIRST_RUN;
+            kind = ACCEPTED, value = 0;
+            break;
+        }
+        case 2: { /* READ t k */
+            NEEDS(3);
+            uint32_t number_t = at[1], k = at[2];
+            if (number_t >= MOST_SAVES || k >= sheets)
+                REFUSE(4);
+            struct save *t = &s->save[number_t];
+            if (t->phase != FIRST_RUN && t->phase != SECOND_RUN)
+                REFUSE(5);
+            uint64_t bit = (uint64_t)1 << k;
+            if (!(t->copied & bit)) {
+                if (t->phase == SECOND_RUN) {
+                    if (!(t->claim & bit))
+                        REFUSE(8);
+                } else if (s->queue[k] & -s->queue[k] & s->queue_x[k]) {
+                    REFUSE(6);
+                }
+                t->copied |= bit;
+                s->copy[number_t][k] = s->content[k];
+                s->seen[number_t][k] = s->wct[k];
+            }
+            kind = CONTENT, value = s->copy[number_t][k];
+            break;
+        }
+        case 3: { /* WRITE t k v */
+            NEEDS(7);
+            uint32_t number_t = at[1], k = at[2];
+            if (number_t >= MOST_SAVES || k >= sheets)
+                REFUSE(4);
+            struct save *t = &s->save[number_t];
+            if (t->phase != FIRST_RUN && t->phase != SECOND_RUN)
+                REFUSE(5);
+            uint64_t bit = (uint64_t)1 << k;
+            if (t->phase == SECOND_RUN && !(t->claim_x & bit))
+                REFUSE(8);
+            if (!(t->copied & bit))
+                REFUSE(7);
+            t->written |= bit;
+            s->copy[number_t][k] = (uint32_t)at[3] << 24 | (uint32_t)at[4] << 16 |
+                                   (uint32_t)at[5] << 8 | at[6];
+            kind = ACCEPTED, value = 0;
+            break;
+        }
+        case 4: { /* SUBMIT t */
+            NEEDS(2);
+            if (at[1] >= MOST_SAVES)
+                REFUSE(4);
+            struct save *t = &s->save[at[1]];
+            if (t->phase == FIRST_RUN) {
+                t->claim = t->copied;
+                t->claim_x = t->written;
+                t->phase = SUBMITTED;
+                t->place = (uint8_t)s->submitted;
+                s->order[s->submitted++] = at[1];
+            } else if (t->phase == SECOND_RUN) {
+                t->phase = COMMITTED;
+                s->second_commits++;
+            } else {
+                REFUSE(5);
+            }
+            kind = ACCEPTED, value = 0;
+            break;
+        }
+        case 5: { /* TAKE n */
+            NEEDS(2);
+            uint32_t n = at[1];
+            if (n >= s->nodes)
+                REFUSE(4);
+            uint32_t place = s->taken[n];
+            if (place == s->submitted)
+                REFUSE(9);
+            s->taken[n]++;
+            uint32_t number_t = s->order[place], here = (uint32_t)1 << place, failed = 0;
+            struct save *t = &s->save[number_t];
+            uint64_t ours = t->claim & s->owned[n];
+            t->held |= ours;
+            for (uint64_t left = ours; left; left &= left - 1) {
+                uint32_t k = (uint32_t)__builtin_ctzll(left);
+                failed |= s->queue_x[k] != 0;
+                failed |= s->seen[number_t][k] < s->wct[k];
+                s->queue[k] |= here;
+                if (t->claim_x >> k & 1)
+                    s->queue_x[k] |= here;
+            }
+            t->failed |= (uint8_t)failed;
+            kind = failed ? INVALID : VALID, value = number_t;
+            break;
+        }
+        case 6: { /* DECIDE t */
+            NEEDS(2);
+            if (at[1] >= MOST_SAVES)
+                REFUSE(4);
+            struct save *t = &s->save[at[1]];
+            if (t->phase != SUBMITTED)
+                REFUSE(5);
+            if (t->held != t->claim)
+                REFUSE(10);
+            uint32_t before = ((uint32_t)1 << t->place) - 1, waits = 0;
+            for (uint64_t left = t->claim; left; left &= left - 1) {
+                uint32_t k = (uint32_t)__builtin_ctzll(left);
+                waits |= (t->claim_x >> k & 1 ? s->queue[k] : s->queue_x[k]) & before;
+            }
+            if (waits)
+                REFUSE(10);
+            if (t->failed) {
+                t->copied = t->written = 0;
+                t->phase = SECOND_RUN;
+                kind = SECOND;
+            } else {
+                t->phase = COMMITTED;
+                s->first_commits++;
+                kind = DECIDED;
+            }
+            value = 0;
+            break;
+        }
+        case 7: { /* APPLY n t */
+            NEEDS(3);
+            uint32_t n = at[1], number_t = at[2];
+            if (n >= s->nodes || number_t >= MOST_SAVES)
+                REFUSE(4);
+            struct save *t = &s->save[number_t];
+            if (t->phase != COMMITTED && t->phase != DROPPED)
+                REFUSE(5);
+            /* A save dropped in its first run holds nothing, so the mask answers for it too. */
+            uint64_t ours = t->held & s->owned[n];
+            if (!ours)
+                REFUSE(11);
+            t->held ^= ours;
+            uint32_t gone = ~((uint32_t)1 << t->place);
+            for (uint64_t left = ours; left; left &= left - 1) {
+                uint32_t k = (uint32_t)__builtin_ctzll(left);
+                s->queue[k] &= gone;
+                s->queue_x[k] &= gone;
+            }
+            if (t->phase == COMMITTED)
+                for (uint64_t left = ours & t->written; left; left &= left - 1) {
+                    uint32_t k = (uint32_t)__builtin_ctzll(left);
+                    s->content[k] = s->copy[number_t][k];
+                    s->wct[k]++;
+                }
+            kind = ACCEPTED, value = 0;
+            break;
+        }
+        case 8: { /* GIVE UP t */
+            NEEDS(2);
+            if (at[1] >= MOST_SAVES)
+                REFUSE(4);
+            struct save *t = &s->save[at[1]];
+            if (t->phase != FIRST_RUN && t->phase != SECOND_RUN)
+                REFUSE(5);
+            t->phase = DROPPED;
+            kind = ACCEPTED, value = 0;
+            break;
+        }
+        default:
+            size = 1;
+            REFUSE(2);
+        }
+    }
+    s->accepted = accepted;
+    {
+        struct end end = { (uint32_t)length, 0, kind, value, 0 };
+        return end;
+    }
+cut:
+    size = (uint32_t)(stop - at);
+    number = 3;
+refused:
+    s->accepted = accepted;
+    return refuse(session, at, size, number);
+#undef NEEDS
+#undef REFUSE
+}
+
+static inline uint8_t *put_number(uint8_t *to, uint32_t number)
+{
+    if (number < 10) {
+        *to = (uint8_t)('0' + number);
+        return to + 1;
+    }
+    uint8_t digits[10];
+    int first = 10;
+    do {
+        digits[--first] = (uint8_t)('0' + number % 10);
+        number /= 10;
+    } while (number);
+    while (first < 10)
+        *to++ = digits[first++];
+    return to;
+}
+
+static inline uint8_t *put_field(uint8_t *to, uint32_t number)
+{
+    *to++ = ' ';
+    return put_number(to, number);
+}
+
+size_t plain_report(const uint8_t *session, size_t session_len, uint8_t *report, size_t report_len)
+{
+    if (report_len < LEAST_BUFFER)
+        return 0;
+    struct state s;
+    struct end end = run(&s, session, session_len);
+    if (end.number == 1) {
+        memcpy(report, "R 0 1\n", 6);
+        return 6;
+    }
+    uint8_t *to = report;
+    for (uint32_t place = 0; place < s.submitted; place++) {
+        const struct save *t = &s.save[s.order[place]];
+        /* The second run is entered exactly when a failed save leaves the submitted phase. */
+        uint32_t runs = t->failed && t->phase != SUBMITTED ? 2 : 1;
+        *to++ = 'P';
+        to = put_field(to, s.order[place]);
+        to = put_field(to, runs);
+        *to++ = ' ';
+        *to++ = t->phase == COMMITTED ? 'C' : t->phase == DROPPED ? 'D' : 'U';
+        *to++ = '\n';
+    }
+    for (uint32_t k = 0; k < s.sheets; k++) {
+        *to++ = 'O';
+        to = put_field(to, k);
+        to = put_field(to, s.content[k]);
+        to = put_field(to, s.wct[k]);
+        *to++ = '\n';
+    }
+    *to++ = 'T';
+    to = put_field(to, s.accepted);
+    to = put_field(to, s.first_commits);
+    to = put_field(to, s.second_commits);
+    *to++ = '\n';
+    if (end.kind == REFUSED) {
+        *to++ = 'R';
+        to = put_field(to, end.offset);
+        to = put_field(to, end.number);
+        *to++ = '\n';
+    }
+    return (size_t)(to - report);
+}
+
+uint64_t plain_answer(const uint8_t *session, size_t session_len)
+{
+    struct state s;
+    struct end end = run(&s, session, session_len);
+    return ((uint64_t)end.kind << 48) + ((uint64_t)end.value << 8) + end.number;
+}
+
+uint64_t plain_shown(const uint8_t *session, size_t session_len)
+{
+    struct state s;
+    struct end end = run(&s, session, session_len);
+    return ((uint64_t)end.offset << 32) + end.shown;
+}

@@ -1,0 +1,384 @@
+//! Compares the engine, linked as a static library, with the model on seeded sessions, and checks
+//! demand 3 on each of them.
+//!
+//! `fuzz --sessions N --seed S [--prefixes] [--lengths] [--states]`
+//!
+//! `--prefixes` compares the answer after every command of every session, not of a share only;
+//! `--lengths` adds every length from 0 to 16,386 bytes; `--states` adds every command in every
+//! state that small sessions reach. The end status is 1 on a difference, on a
+//! broken demand, and where a run of 1,000 sessions or more has left out a refusal.
+
+use model::command::{Header, MOST_BYTES};
+use model::demand3::{self, Met};
+use model::engine::Answer;
+use model::generate::{self, Input};
+use model::prng::Prng;
+use model::report::{write_report, LEAST_BUFFER};
+use model::session::{coded_answer, Session};
+use model::states;
+use std::process::exit;
+
+mod engine {
+    extern "C" {
+        fn cusphewa_report(
+            session: *const u8,
+            session_len: usize,
+            report: *mut u8,
+            report_len: usize,
+        ) -> usize;
+        fn cusphewa_answer(session: *const u8, session_len: usize) -> u64;
+        fn cusphewa_shown(session: *const u8, session_len: usize) -> u64;
+    }
+
+    // In each call the pointers and lengths are those of one live slice.
+
+    pub fn report(session: &[u8], buffer: &mut [u8]) -> usize {
+        unsafe {
+            cusphewa_report(session.as_ptr(), session.len(), buffer.as_mut_ptr(), buffer.len())
+        }
+    }
+
+    pub fn answer(session: &[u8]) -> u64 {
+        unsafe { cusphewa_answer(session.as_ptr(), session.len()) }
+    }
+
+    pub fn shown(session: &[u8]) -> u64 {
+        unsafe { cusphewa_shown(session.as_ptr(), session.len()) }
+    }
+}
+
+/// Bytes on both sides of the report buffer, to see a write outside it.
+const GUARD: usize = 64;
+
+/// Sessions with at most so many commands have all their prefixes compared, longer ones a sample.
+const ALL_PREFIXES: usize = 300;
+const SAMPLE: usize = 40;
+
+#[derive(Default)]
+struct Counts {
+    sessions: u64,
+    prefixes: u64,
+    accepted: u64,
+    first_commits: u64,
+    second_commits: u64,
+    refusals: [u64; 13],
+    takes_valid: u64,
+    takes_invalid: u64,
+    second_runs: u64,
+    second_run_drops: u64,
+    full_length: u64,
+    all_saves: u64,
+    longest_queue: usize,
+    met: Met,
+}
+
+struct Arguments {
+    sessions: u64,
+    seed: u64,
+    prefixes: bool,
+    lengths: bool,
+    states: bool,
+}
+
+fn main() {
+    let arguments = arguments();
+    let mut counts = Counts::default();
+    for number in 0..arguments.sessions {
+        // Each session has its own seed, so that a difference is found again at once.
+        let seed = arguments.seed.wrapping_add(number);
+        let outcome = one_session(seed, arguments.prefixes, &mut counts);
+        if let Err(trouble) = outcome {
+            println!("seed {seed}: {trouble}");
+            println!("again: fuzz --sessions 1 --seed {seed} --prefixes");
+            exit(1);
+        }
+    }
+    if arguments.lengths {
+        if let Err(trouble) = every_length(arguments.seed) {
+            println!("lengths, seed {}: {trouble}", arguments.seed);
+            exit(1);
+        }
+        println!("lengths: 0 to {} bytes", MOST_BYTES + 2);
+    }
+    if arguments.states {
+        for (nodes, owner, saves) in SMALL {
+            let header = Header { nodes, owner: owner.to_vec() };
+            if let Err(trouble) = every_state(&header, saves) {
+                println!("states: {trouble}");
+                exit(1);
+            }
+        }
+    }
+    let missing = close(&counts);
+    if arguments.sessions >= 1_000 && missing {
+        exit(1);
+    }
+}
+
+fn arguments() -> Arguments {
+    let mut arguments =
+        Arguments { sessions: 1_000, seed: 1, prefixes: false, lengths: false, states: false };
+    let mut words = std::env::args().skip(1);
+    let usage = || -> ! {
+        eprintln!("fuzz --sessions N --seed S [--prefixes] [--lengths] [--states]");
+        exit(2)
+    };
+    while let Some(word) = words.next() {
+        let mut figure = || words.next().and_then(|word| word.parse().ok());
+        match word.as_str() {
+            "--sessions" => arguments.sessions = figure().unwrap_or_else(|| usage()),
+            "--seed" => arguments.seed = figure().unwrap_or_else(|| usage()),
+            "--prefixes" => arguments.prefixes = true,
+            "--lengths" => arguments.lengths = true,
+            "--states" => arguments.states = true,
+            _ => usage(),
+        }
+    }
+    arguments
+}
+
+fn one_session(seed: u64, prefixes: bool, counts: &mut Counts) -> Result<(), String> {
+    // Neighbouring seeds must not give neighbouring states.
+    let mut prng = Prng::new(Prng::new(seed).draw());
+    let Input { session, buffer } = generate::input(&mut prng);
+    let (run, met) = demand3::check(&session, &mut prng)
+        .map_err(|trouble| format!("demand 3 in the model: {trouble}\n{}", shown(&session)))?;
+    let mut compared = compare(&session, &run, &buffer, &mut prng);
+    if compared.is_ok() && (prefixes || prng.one_in(4)) {
+        compared =
+            compare_prefixes(&session, &run, &mut prng).map(|prefixes| counts.prefixes += prefixes);
+    }
+    compared.map_err(|trouble| match smallest(&session, &buffer) {
+        Some(smaller) => format!("{trouble}\nsmaller: {smaller}"),
+        None => trouble,
+    })?;
+    count(&session, &run, &buffer, met, counts);
+    Ok(())
+}
+
+/// Cuts and extends one long session to every length that a call could be handed.
+fn every_length(seed: u64) -> Result<(), String> {
+    let mut prng = Prng::new(Prng::new(seed).draw());
+    let mut longest = generate::full(&mut prng);
+    longest.extend([2, 31]);
+    for length in 0..=MOST_BYTES + 2 {
+        let session = &longest[..length];
+        let run = Session::run(session);
+        let buffer = generate::buffer(&mut prng);
+        compare(session, &run, &buffer, &mut prng)?;
+    }
+    Ok(())
+}
+
+/// Nodes, owners of the sheets, and saves, of which all states are tried.
+const SMALL: [(usize, &[usize], usize); 4] =
+    [(1, &[0], 2), (2, &[0], 2), (2, &[0, 1], 2), (1, &[0], 3)];
+const MOST_STATES: usize = 40_000;
+
+fn every_state(header: &Header, saves: usize) -> Result<(), String> {
+    let mut prng = Prng::new(1);
+    let mut buffer = vec![0; LEAST_BUFFER];
+    prng.fill(&mut buffer);
+    let mut tried = 0;
+    let (states, whole) = states::explore(header, saves, MOST_STATES, |session, new| {
+        tried += 1;
+        if new {
+            demand3::check(session, &mut prng).map_err(|trouble| {
+                format!("demand 3 in the model: {trouble}\n{}", shown(session))
+            })?;
+        }
+        compare(session, &Session::run(session), &buffer, &mut prng)
+    })?;
+    println!(
+        "states: {} nodes, {} sheets, {saves} saves: {tried} commands in {} {states} states",
+        header.nodes,
+        header.sheets(),
+        if whole { "all" } else { "the first" },
+    );
+    Ok(())
+}
+
+/// One session: the length, every byte of the buffer and around it, the answer, the part shown.
+fn compare(session: &[u8], run: &Session, buffer: &[u8], prng: &mut Prng) -> Result<(), String> {
+    let mut expected = buffer.to_vec();
+    let expected_length = write_report(run, &mut expected);
+
+    let mut room = vec![0; GUARD + buffer.len() + GUARD];
+    prng.fill(&mut room);
+    room[GUARD..GUARD + buffer.len()].copy_from_slice(buffer);
+    let before = room.clone();
+    let input = session.to_vec();
+    let length = engine::report(&input, &mut room[GUARD..GUARD + buffer.len()]);
+
+    let written = &room[GUARD..GUARD + buffer.len()];
+    if length != expected_length || written != expected {
+        return Err(difference(
+            session,
+            &format!("buffer of {}", buffer.len()),
+            &text(&expected, expected_length, expected.len()),
+            &text(
+                written,
+                length,
+                expected.iter().zip(written).take_while(|(a, b)| a == b).count(),
+            ),
+        ));
+    }
+    if room[..GUARD] != before[..GUARD]
+        || room[GUARD + buffer.len()..] != before[GUARD + buffer.len()..]
+    {
+        return Err(difference(session, "buffer", "left alone around it", "written around it"));
+    }
+    compare_answer(&input, run.answer(), run.shown())?;
+    if input != session {
+        return Err(difference(session, "session", "left alone", "written to"));
+    }
+    Ok(())
+}
+
+fn compare_answer(session: &[u8], answer: u64, part: (usize, usize)) -> Result<(), String> {
+    let given = engine::answer(session);
+    if given != answer {
+        return Err(difference(session, "answer", &answer_text(answer), &answer_text(given)));
+    }
+    let given = engine::shown(session);
+    let expected = ((part.0 as u64) << 32) + part.1 as u64;
+    if given != expected {
+        let text = |shown: u64| format!("from {} size {}", shown >> 32, shown & 0xffff_ffff);
+        return Err(difference(session, "shown", &text(expected), &text(given)));
+    }
+    Ok(())
+}
+
+/// The answers in the middle of a session, where READ's contents and TAKE's verdicts stand.
+fn compare_prefixes(session: &[u8], run: &Session, prng: &mut Prng) -> Result<u64, String> {
+    let steps = run.steps.len();
+    let places: Vec<usize> = if steps <= ALL_PREFIXES {
+        (0..steps).collect()
+    } else {
+        (0..SAMPLE).map(|_| prng.below(steps)).collect()
+    };
+    for &place in &places {
+        let step = run.steps[place];
+        let prefix = &session[..step.end];
+        compare_answer(prefix, coded_answer(step.answer), (prefix.len(), 0))?;
+    }
+    Ok(places.len() as u64)
+}
+
+/// A smaller session that still differs: its first prefix that does, without the commands that do
+/// not matter.
+fn smallest(session: &[u8], buffer: &[u8]) -> Option<String> {
+    let trouble =
+        |bytes: &[u8]| compare(bytes, &Session::run(bytes), buffer, &mut Prng::new(0)).err();
+    let run = Session::run(session);
+    let mut cuts = vec![0];
+    cuts.extend(run.started.iter().map(|(header, _)| 2 + header.sheets()));
+    cuts.extend(run.steps.iter().map(|step| step.end));
+    cuts.push(session.len());
+    let end = cuts.iter().position(|&cut| trouble(&session[..cut]).is_some())?;
+    let mut pieces: Vec<&[u8]> =
+        cuts[..=end].windows(2).map(|cut| &session[cut[0]..cut[1]]).collect();
+    let mut size = pieces.len() / 2;
+    while size > 0 {
+        // The first piece is the header and stays.
+        let mut at = 1;
+        while at + size <= pieces.len() {
+            let mut fewer = pieces.clone();
+            fewer.drain(at..at + size);
+            if trouble(&fewer.concat()).is_some() {
+                pieces = fewer;
+            } else {
+                at += size;
+            }
+        }
+        size /= 2;
+    }
+    trouble(&pieces.concat())
+}
+
+fn count(session: &[u8], run: &Session, buffer: &[u8], met: Met, counts: &mut Counts) {
+    counts.sessions += 1;
+    counts.met.add(met);
+    counts.full_length += (session.len() == MOST_BYTES) as u64;
+    if let Some(refused) = run.refused {
+        counts.refusals[refused.number as usize] += 1;
+    }
+    if buffer.len() < LEAST_BUFFER {
+        counts.refusals[12] += 1;
+    }
+    for step in &run.steps {
+        match step.answer {
+            Answer::Taken { valid: true, .. } => counts.takes_valid += 1,
+            Answer::Taken { valid: false, .. } => counts.takes_invalid += 1,
+            Answer::SecondRun => counts.second_runs += 1,
+            _ => {}
+        }
+    }
+    if let Some((_, engine)) = &run.started {
+        counts.accepted += engine.tally.accepted as u64;
+        counts.first_commits += engine.tally.first_run_commits as u64;
+        counts.second_commits += engine.tally.second_run_commits as u64;
+        counts.all_saves += (engine.order.len() == 32) as u64;
+        let dropped = |&&save: &&usize| engine.saves[save].phase == model::engine::Phase::Dropped;
+        counts.second_run_drops += engine.order.iter().filter(dropped).count() as u64;
+        let longest = engine.sheets.iter().map(|sheet| sheet.queue.len()).max().unwrap_or(0);
+        counts.longest_queue = counts.longest_queue.max(longest);
+    }
+}
+
+/// Prints the counts; says whether something never occurred.
+fn close(counts: &Counts) -> bool {
+    println!(
+        "met: {} prefixes, {} reads and {} stores against the serial run, {} states with entries, \
+         {} tail steps (nearest to the bound: {}), TAKE valid {} invalid {}, second runs {} \
+         (given up {}), longest queue left {}, {} sessions of 16384 bytes, {} with 32 places",
+        counts.prefixes,
+        counts.met.reads,
+        counts.met.stores,
+        counts.met.queued_states,
+        counts.met.tail_steps,
+        counts.met.least_slack.map_or("none".to_string(), |slack| slack.to_string()),
+        counts.takes_valid,
+        counts.takes_invalid,
+        counts.second_runs,
+        counts.second_run_drops,
+        counts.longest_queue,
+        counts.full_length,
+        counts.all_saves,
+    );
+    let refusals: Vec<String> =
+        (1..=12).map(|number| format!("{number}:{}", counts.refusals[number])).collect();
+    println!(
+        "{} sessions, {} accepted commands, commits {} first run {} second run, refusals {}",
+        counts.sessions,
+        counts.accepted,
+        counts.first_commits,
+        counts.second_commits,
+        refusals.join(" ")
+    );
+    counts.refusals[1..].contains(&0) || counts.first_commits == 0 || counts.second_commits == 0
+}
+
+fn difference(session: &[u8], what: &str, model: &str, engine: &str) -> String {
+    format!("{what} differs\n{}\nmodel:  {model}\nengine: {engine}", shown(session))
+}
+
+fn shown(session: &[u8]) -> String {
+    let bytes: Vec<String> = session.iter().map(|byte| format!("{byte:02x}")).collect();
+    format!("session ({} bytes): {}", session.len(), bytes.join(" "))
+}
+
+/// A report with its returned length; `same` bytes of the buffer agree with the model's.
+fn text(buffer: &[u8], length: usize, same: usize) -> String {
+    let report = &buffer[..length.min(buffer.len())];
+    format!("length {length}, {same} bytes as expected\n{}", String::from_utf8_lossy(report))
+}
+
+fn answer_text(answer: u64) -> String {
+    format!(
+        "kind {} value {} number {}",
+        answer >> 48,
+        (answer >> 8) & 0xff_ffff_ffff,
+        answer & 0xff
+    )
+}

@@ -1,0 +1,418 @@
+//! Sessions from a seed: guided ones that stay accepted for long and contend for few sheets, and
+//! damaged ones.
+
+use crate::command::{Command, Header, MOST_BYTES, MOST_NODES, MOST_SAVES, MOST_SHEETS};
+use crate::engine::{Engine, Phase, Save};
+use crate::prng::Prng;
+
+/// One fuzz input: a session, and the report buffer as it stands before the call.
+#[derive(Clone, Debug)]
+pub struct Input {
+    pub session: Vec<u8>,
+    pub buffer: Vec<u8>,
+}
+
+pub fn input(prng: &mut Prng) -> Input {
+    let session = if prng.one_in(4) { damaged(prng) } else { guided(prng) };
+    Input { session, buffer: buffer(prng) }
+}
+
+/// A report buffer of a telling length, filled with noise that the call must leave alone.
+pub fn buffer(prng: &mut Prng) -> Vec<u8> {
+    let length = match prng.below(32) {
+        0 => 0,
+        1 => 4_095,
+        2 => prng.below(4_096),
+        3 => 4_097,
+        4..=9 => prng.between(4_096, 5_000),
+        10 => prng.below(5_001),
+        _ => 4_096,
+    };
+    let mut buffer = vec![0; length];
+    prng.fill(&mut buffer);
+    buffer
+}
+
+/// How a guided session is made.
+struct Plan {
+    header: Header,
+    saves: usize,
+    /// The session's aim in bytes.
+    length: usize,
+    /// The weights of BEGIN, READ, WRITE, SUBMIT, TAKE, DECIDE, APPLY, GIVE UP.
+    weights: [usize; 8],
+    /// Do the weights change on the way?
+    moods: bool,
+    /// A refused command is kept once in so many; 0 for never.
+    keep_refused: usize,
+    /// A refusal to end with, looked for once the session has so many bytes.
+    wanted: Option<(u8, usize)>,
+    /// The sheets that most READs and WRITEs go to.
+    hot: usize,
+}
+
+/// Rare APPLYs make long queues, rare SUBMITs large claims, rare TAKEs lagging nodes; many saves
+/// that run at once and then are taken one after the other make second runs.
+const MOODS: [[usize; 8]; 6] = [
+    [12, 40, 30, 1, 1, 1, 1, 1],
+    [4, 30, 24, 12, 3, 1, 1, 1],
+    [1, 6, 6, 3, 30, 3, 1, 1],
+    [1, 20, 14, 6, 10, 24, 5, 1],
+    [2, 20, 14, 3, 8, 12, 24, 1],
+    [6, 40, 26, 5, 16, 14, 14, 1],
+];
+
+/// A save runs twice at most, so only READs and WRITEs can fill a long session.
+const LONG: [usize; 8] = [3, 400, 300, 4, 24, 14, 14, 1];
+
+fn header(prng: &mut Prng, nodes: usize, sheets: usize) -> Header {
+    // A node that owns nothing only moves its place in the order; it must occur too.
+    let used = if prng.one_in(4) { prng.between(1, nodes) } else { nodes };
+    let owner = (0..sheets).map(|_| prng.below(used)).collect();
+    Header { nodes, owner }
+}
+
+fn plan(prng: &mut Prng) -> Plan {
+    let (nodes, sheets, saves, length) = match prng.below(40) {
+        0..=14 => (prng.between(1, 3), prng.between(1, 3), prng.between(2, 5), 400),
+        15..=27 => (prng.between(1, 4), prng.between(1, 6), prng.between(3, 10), 1_000),
+        28..=34 => (prng.between(1, MOST_NODES), prng.between(2, 12), prng.between(6, 32), 2_500),
+        35..=36 => (prng.between(1, MOST_NODES), prng.between(1, MOST_SHEETS), MOST_SAVES, 4_000),
+        37 => (MOST_NODES, MOST_SHEETS, MOST_SAVES, 5_000),
+        38 => (prng.between(1, MOST_NODES), prng.between(1, 8), MOST_SAVES, MOST_BYTES),
+        _ => (MOST_NODES, MOST_SHEETS, MOST_SAVES, MOST_BYTES),
+    };
+    let long = length == MOST_BYTES;
+    let length = if long { length } else { prng.between(length / 8, length) };
+    let wanted = if prng.one_in(2) {
+        // The numbers that need a history are wanted more often than the others.
+        let number = prng.pick(&[2, 3, 4, 5, 5, 5, 6, 6, 7, 8, 8, 8, 9, 10, 10, 11]);
+        Some((number, prng.below(length)))
+    } else {
+        None
+    };
+    Plan {
+        header: header(prng, nodes, sheets),
+        saves,
+        length,
+        weights: if long { LONG } else { MOODS[0] },
+        moods: !long,
+        keep_refused: prng.pick(&[0, 0, 0, 2_000, 300]),
+        wanted,
+        hot: prng.between(1, sheets.min(6)),
+    }
+}
+
+pub fn guided(prng: &mut Prng) -> Vec<u8> {
+    let mut plan = plan(prng);
+    let mut engine = Engine::new(&plan.header);
+    let mut session = plan.header.bytes();
+    let mut in_vain = 0;
+    while session.len() < plan.length && in_vain < 400 {
+        if plan.moods && prng.one_in(24) {
+            plan.weights = prng.pick(&MOODS);
+            if plan.saves > 16 {
+                // A crowd must come to its SUBMITs before the session ends.
+                plan.weights[0] *= 3;
+                plan.weights[3] *= 3;
+            }
+        }
+        if let Some((number, from)) = plan.wanted {
+            if session.len() >= from && prng.one_in(4) {
+                if let Some(end) = refused_with(prng, &plan, &engine, number) {
+                    session.extend(end);
+                    session.truncate(MOST_BYTES);
+                    return session;
+                }
+            }
+        }
+        let command = candidate(prng, &plan, &engine);
+        let bytes = command.bytes();
+        if session.len() + bytes.len() > MOST_BYTES || ends_too_early(&plan, &engine, command) {
+            in_vain += 1;
+            continue;
+        }
+        match engine.step(command) {
+            Ok(_) => {
+                session.extend(bytes);
+                in_vain = 0;
+            }
+            Err(_) if plan.keep_refused > 0 && prng.one_in(plan.keep_refused) => {
+                session.extend(bytes);
+                return session;
+            }
+            Err(_) => in_vain += 1,
+        }
+    }
+    session
+}
+
+/// A long session needs a running save to its end, or nothing could fill it.
+fn ends_too_early(plan: &Plan, engine: &Engine, command: Command) -> bool {
+    if plan.moods || !matches!(command, Command::Submit { .. } | Command::GiveUp { .. }) {
+        return false;
+    }
+    let can_fill = |save: &&Save| save.phase == Phase::FirstRun && !save.copies.is_empty();
+    engine.saves.iter().filter(can_fill).count() < 2
+}
+
+/// The bytes of a command that earns the refusal `number` now, if one is found.
+fn refused_with(prng: &mut Prng, plan: &Plan, engine: &Engine, number: u8) -> Option<Vec<u8>> {
+    let mut bytes = match number {
+        2 => vec![prng.pick(&[0, 9, 10, 0x80, 0xff])],
+        3 => {
+            let mut cut = any_command(prng, plan).bytes();
+            cut.truncate(prng.between(1, cut.len() - 1));
+            return Some(cut);
+        }
+        4 => out_of_range(prng, plan),
+        _ => {
+            let found = (0..20)
+                .map(|round| {
+                    if round % 2 == 0 {
+                        any_command(prng, plan)
+                    } else {
+                        candidate(prng, plan, engine)
+                    }
+                })
+                .find(|&command| engine.refusal(command) == Some(number));
+            found?.bytes()
+        }
+    };
+    if prng.one_in(3) {
+        // What stands after the refused command must not be read.
+        bytes.extend(any_command(prng, plan).bytes());
+    }
+    Some(bytes)
+}
+
+fn out_of_range(prng: &mut Prng, plan: &Plan) -> Vec<u8> {
+    let save = prng.pick(&[0, 31, 32, 33, 64, 255]);
+    let sheet = prng.pick(&[0, plan.header.sheets() - 1, plan.header.sheets(), 64, 255]);
+    let node = prng.pick(&[0, plan.header.nodes - 1, plan.header.nodes, 8, 255]);
+    let content = 0;
+    match prng.below(8) {
+        0 => Command::Begin { save },
+        1 => Command::Read { save, sheet },
+        2 => Command::Write { save, sheet, content },
+        3 => Command::Submit { save },
+        4 => Command::Take { node },
+        5 => Command::Decide { save },
+        6 => Command::Apply { node, save },
+        _ => Command::GiveUp { save },
+    }
+    .bytes()
+}
+
+/// Any command in range, whatever the state.
+fn any_command(prng: &mut Prng, plan: &Plan) -> Command {
+    let save = prng.below(plan.saves.min(MOST_SAVES));
+    let sheet = prng.below(plan.header.sheets());
+    let node = prng.below(plan.header.nodes);
+    match prng.below(8) {
+        0 => Command::Begin { save },
+        1 => Command::Read { save, sheet },
+        2 => Command::Write { save, sheet, content: content(prng) },
+        3 => Command::Submit { save },
+        4 => Command::Take { node },
+        5 => Command::Decide { save },
+        6 => Command::Apply { node, save },
+        _ => Command::GiveUp { save },
+    }
+}
+
+/// Contents of all sizes: all digit counts, the byte borders, and repeats.
+fn content(prng: &mut Prng) -> u32 {
+    match prng.below(8) {
+        0 => 0,
+        1 => prng.below(3) as u32,
+        2 => u32::MAX - prng.below(2) as u32,
+        3 => 10u32.pow(prng.below(10) as u32),
+        4 => 10u32.pow(prng.below(10) as u32) - 1,
+        5 => 1 << prng.below(32),
+        _ => (prng.draw() as u32) >> prng.below(32),
+    }
+}
+
+/// A command of a weighted kind, for a save in a phase that allows it where there is one.
+fn candidate(prng: &mut Prng, plan: &Plan, engine: &Engine) -> Command {
+    let total: usize = plan.weights.iter().sum();
+    let mut ticket = prng.below(total);
+    let mut kind = 0;
+    while ticket >= plan.weights[kind] {
+        ticket -= plan.weights[kind];
+        kind += 1;
+    }
+    let running = [Phase::FirstRun, Phase::SecondRun];
+    let node = prng.below(plan.header.nodes);
+    match kind {
+        0 => Command::Begin { save: save_in(prng, plan, engine, &[Phase::Unused]) },
+        1 => {
+            let save = save_in(prng, plan, engine, &running);
+            let claim: Vec<usize> = engine.saves[save].claim.keys().copied().collect();
+            Command::Read { save, sheet: sheet_of(prng, plan, &claim) }
+        }
+        2 => {
+            let save = save_in(prng, plan, engine, &running);
+            let copies: Vec<usize> = engine.saves[save].copies.keys().copied().collect();
+            let sheet = sheet_of(prng, plan, &copies);
+            Command::Write { save, sheet, content: content(prng) }
+        }
+        3 => {
+            // Saves without copies have empty claims: a few of them are enough.
+            let first = save_in(prng, plan, engine, &running);
+            let full = |save: usize| !engine.saves[save].copies.is_empty();
+            let save = if full(first) || prng.one_in(4) {
+                first
+            } else {
+                save_in(prng, plan, engine, &running)
+            };
+            Command::Submit { save }
+        }
+        4 => Command::Take { node },
+        5 => Command::Decide { save: save_in(prng, plan, engine, &[Phase::Submitted]) },
+        6 => {
+            let ended = [Phase::Committed, Phase::Dropped];
+            Command::Apply { node, save: save_in(prng, plan, engine, &ended) }
+        }
+        _ => Command::GiveUp { save: save_in(prng, plan, engine, &running) },
+    }
+}
+
+/// Mostly one of the fitting sheets, else a hot one, else any.
+fn sheet_of(prng: &mut Prng, plan: &Plan, fitting: &[usize]) -> usize {
+    match prng.below(8) {
+        0 => prng.below(plan.header.sheets()),
+        1..=5 if !fitting.is_empty() => prng.pick(fitting),
+        _ => prng.below(plan.hot),
+    }
+}
+
+fn save_in(prng: &mut Prng, plan: &Plan, engine: &Engine, phases: &[Phase]) -> usize {
+    let fit = |save: &usize| phases.contains(&engine.saves[*save].phase);
+    let fitting: Vec<usize> = (0..plan.saves).filter(fit).collect();
+    if fitting.is_empty() {
+        prng.below(plan.saves)
+    } else {
+        prng.pick(&fitting)
+    }
+}
+
+/// A session that was right and has come to harm.
+pub fn damaged(prng: &mut Prng) -> Vec<u8> {
+    let mut session = guided(prng);
+    match prng.below(12) {
+        0 => session.truncate(prng.below(session.len() + 1)),
+        1 => {
+            for _ in 0..prng.between(1, 4) {
+                let place = prng.below(session.len());
+                session[place] ^= 1 << prng.below(8);
+            }
+        }
+        2 => {
+            for _ in 0..prng.between(1, 3) {
+                let place = prng.below(session.len());
+                session[place] = small_byte(prng);
+            }
+        }
+        3 => {
+            // The head of one session with the end of another.
+            let other = guided(prng);
+            session.truncate(prng.below(session.len() + 1));
+            session.extend(&other[prng.below(other.len() + 1)..]);
+        }
+        4 => {
+            let from = prng.below(session.len());
+            let to = prng.between(from, session.len());
+            let part = session[from..to].to_vec();
+            let place = prng.below(session.len() + 1);
+            session.splice(place..place, part);
+        }
+        5 => {
+            let from = prng.below(session.len());
+            let to = session.len().min(from + prng.between(1, 12));
+            session.drain(from..to);
+        }
+        6 => session[0] = prng.pick(&[0, 1, 8, 9, 16, 255]),
+        7 => session[1] = prng.pick(&[0, 1, 64, 65, 128, 255]),
+        8 => {
+            let sheets = session[1] as usize;
+            let owner = 2 + prng.below(sheets);
+            session[owner] = prng.pick(&[session[0] - 1, session[0], session[0] + 1, 255]);
+        }
+        9 => {
+            // A header that is cut, or the first bytes alone.
+            let sheets = session[1] as usize;
+            session.truncate(prng.below(2 + sheets + 1));
+        }
+        10 => {
+            // Lengths about the limit: filled with READs, which may be refused, or with noise.
+            let length = prng.between(MOST_BYTES - 4, MOST_BYTES + 2);
+            let noise = prng.one_in(2);
+            while session.len() < length {
+                let save = prng.below(MOST_SAVES) as u8;
+                let bytes = [2, save, 0];
+                session.extend(if noise { [small_byte(prng); 3] } else { bytes });
+            }
+            session.truncate(length);
+        }
+        _ => {
+            // Noise of any length, with and without a right header.
+            let length = if prng.one_in(2) { prng.below(MOST_BYTES + 3) } else { prng.below(80) };
+            let keep = if prng.one_in(3) { 0 } else { 2 + session[1] as usize };
+            session.truncate(keep);
+            while session.len() < length {
+                session.push(small_byte(prng));
+            }
+            session.truncate(length);
+        }
+    }
+    session
+}
+
+/// A byte that is often a command byte or an operand in range.
+fn small_byte(prng: &mut Prng) -> u8 {
+    match prng.below(4) {
+        0 => prng.draw() as u8,
+        1 => prng.below(3) as u8,
+        _ => prng.below(10) as u8,
+    }
+}
+
+/// A session of exactly 16,384 bytes without refusal; each prefix of it is an input of its own.
+pub fn full(prng: &mut Prng) -> Vec<u8> {
+    let mut plan = plan(prng);
+    plan.header = header(prng, 4, 8);
+    plan.saves = MOST_SAVES - 1;
+    plan.weights = LONG;
+    plan.hot = 4;
+    let mut engine = Engine::new(&plan.header);
+    let mut session = plan.header.bytes();
+    let mut put = |engine: &mut Engine, command: Command| {
+        if engine.step(command).is_ok() {
+            session.extend(command.bytes());
+        }
+        MOST_BYTES - session.len()
+    };
+    // The last save has a copy from the start, so that its READs and WRITEs fill any rest.
+    let (save, sheet) = (MOST_SAVES - 1, 0);
+    put(&mut engine, Command::Begin { save });
+    let mut rest = put(&mut engine, Command::Read { save, sheet });
+    // All the others may have ended before the session is full.
+    let mut in_vain = 0;
+    while rest > 40 && in_vain < 400 {
+        let command = candidate(prng, &plan, &engine);
+        let before = rest;
+        rest = put(&mut engine, command);
+        in_vain = if rest < before { 0 } else { in_vain + 1 };
+    }
+    while rest > 0 {
+        let command = if rest % 3 == 0 || (rest > 40 && prng.one_in(2)) {
+            Command::Read { save, sheet }
+        } else {
+            Command::Write { save, sheet, content: content(prng) }
+        };
+        rest = put(&mut engine, command);
+    }
+    session
+}

@@ -1,0 +1,18 @@
+//! An independent model of document 01: sheets, saves and nodes.
+//!
+//! It is written for reading, not for speed: a queue is a vector of entries, a save is a struct,
+//! and every rule of the paper stands in one place. The engine is compared with it, so it shares
+//! no code with the engine.
+
+pub mod command;
+pub mod demand3;
+pub mod engine;
+pub mod generate;
+pub mod prng;
+pub mod report;
+pub mod serial;
+pub mod session;
+pub mod states;
+
+#[cfg(test)]
+mod cases;

@@ -1,0 +1,106 @@
+//! A whole session: it runs to its end or to its first refusal.
+
+use crate::command::{read_command, read_header, Command, Header};
+use crate::engine::{Answer, Engine};
+
+#[derive(Clone, Copy, Debug, PartialEq, Eq)]
+pub struct Refused {
+    pub offset: usize,
+    pub number: u8,
+    /// How many bytes of the session, from `offset`, hold the refused command.
+    pub shown: usize,
+}
+
+/// An accepted command with its answer, and where the session goes on after it.
+#[derive(Clone, Copy, Debug, PartialEq, Eq)]
+pub struct Step {
+    pub command: Command,
+    pub answer: Answer,
+    pub end: usize,
+}
+
+#[derive(Clone, Debug)]
+pub struct Session {
+    /// The length of the session in bytes.
+    pub length: usize,
+    /// The header and the state after the accepted commands; nothing after refusal 1.
+    pub started: Option<(Header, Engine)>,
+    pub steps: Vec<Step>,
+    pub refused: Option<Refused>,
+}
+
+impl Session {
+    pub fn run(bytes: &[u8]) -> Session {
+        Session::run_watched(bytes, |_, _| {})
+    }
+
+    /// Runs the session and shows the state at the start and after each accepted command.
+    pub fn run_watched(bytes: &[u8], mut watch: impl FnMut(&Header, &Engine)) -> Session {
+        let mut session =
+            Session { length: bytes.len(), started: None, steps: Vec::new(), refused: None };
+        let Some(header) = read_header(bytes) else {
+            session.refused = Some(Refused { offset: 0, number: 1, shown: 0 });
+            return session;
+        };
+        let mut engine = Engine::new(&header);
+        watch(&header, &engine);
+        let mut offset = 2 + header.sheets();
+        while offset < bytes.len() {
+            let (command, length) = match read_command(&header, &bytes[offset..]) {
+                Ok(read) => read,
+                Err(bad) => {
+                    session.refused =
+                        Some(Refused { offset, number: bad.number, shown: bad.shown });
+                    break;
+                }
+            };
+            match engine.step(command) {
+                Ok(answer) => {
+                    offset += length;
+                    session.steps.push(Step { command, answer, end: offset });
+                    watch(&header, &engine);
+                }
+                Err(number) => {
+                    session.refused = Some(Refused { offset, number, shown: length });
+                    break;
+                }
+            }
+        }
+        session.started = Some((header, engine));
+        session
+    }
+
+    /// The answer of the call, as kind * 2^48 + value * 2^8 + number.
+    pub fn answer(&self) -> u64 {
+        if let Some(refused) = self.refused {
+            return coded(7, refused.offset as u64, refused.number);
+        }
+        match self.steps.last() {
+            None => coded(0, 0, 0),
+            Some(step) => coded_answer(step.answer),
+        }
+    }
+
+    /// The part of the session that is shown: where it starts, and its size.
+    pub fn shown(&self) -> (usize, usize) {
+        match self.refused {
+            Some(refused) => (refused.offset, refused.shown),
+            None => (self.length, 0),
+        }
+    }
+}
+
+pub fn coded_answer(answer: Answer) -> u64 {
+    match answer {
+        Answer::Accepted => coded(1, 0, 0),
+        Answer::Content(content) => coded(2, content as u64, 0),
+        Answer::Taken { save, valid: true } => coded(3, save as u64, 0),
+        Answer::Taken { save, valid: false } => coded(4, save as u64, 0),
+        Answer::Committed => coded(5, 0, 0),
+        Answer::SecondRun => coded(6, 0, 0),
+    }
+}
+
+fn coded(kind: u64, value: u64, number: u8) -> u64 {
+    (kind << 48) + (value << 8) + number as u64
+}
