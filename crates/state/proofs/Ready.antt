@@ -60,5 +60,20 @@ module _ (d : Control) (value seen mark claim standing content wct : List ℕ) (
         first : {p : ℕ} → p ≡ 1 → is-first (as-phase p) ≡ true
         first e = rw e
 
+  -- nothing is known of the tally
+  pub known-any : (other : Tally) → Known (view d value seen mark claim standing content wct other)
+  known-any other = record {
+    nodes8 = known .nodes8;
+    sheets64 = known .sheets64;
+    owners = known .owners;
+    takens = known .takens;
+    small = known .small;
+    once = known .once;
+    joined = known .joined;
+    room = known .room;
+    runs = known .runs;
+    rises = known .rises;
+  }
+
   pub rising : length wct ≡ 64 → Rising wct
   rising e k = let z = everywhere wct 64 4294967294 e (λ i l. let y = known .rises i l in omega arith) k in omega arith
