@@ -1,5 +1,5 @@
 // The commands of a save: BEGIN, READ, WRITE, SUBMIT, DECIDE and GIVE UP. Each does what its rule says.
-ghost use Prim.Native.Nat.{ℕ, _+_, _*_, _<_, _≤_};
+ghost use Prim.Native.Nat.{ℕ, _+_, _*_, _<_};
 ghost use mathlib.Core.Path.{_≡_};
 ghost use mathlib.Core.Bool.{_&&_, _||_, not};
 ghost use mathlib.Core.List.{List, []};

@@ -17,6 +17,7 @@ use Rattle.state.specs.Places.{at}
 use Rattle.state.specs.View.{advanced, Steps}
 use Rattle.state.specs.Ready.{Known}
 use Rattle.state.proofs.Tables.{same?}
+use Rattle.state.proofs.Steps.{state-stepped}
 use Rattle.worked.specs.Worked.{command-at, state-after}
 
 left : (a b : Bool) → a && b ≡ true → a ≡ true
@@ -67,6 +68,6 @@ pub onward : (before after : Tally → State) (a : Answer) (n : ℕ) (c : Comman
 unfolding state-after
 onward before after a n c own e f s =
     let t = state-after n .tally in
-    let q : after (advanced t a) ≡ step (state-after n) (command-at n) .state = ap (λ r. r .state) (s .equation t) ∙ rw (e, f) in
+    let q : after (advanced t a) ≡ step (state-after n) (command-at n) .state = state-stepped s e ∙ rw f in
     let z : advanced t a ≡ step (state-after n) (command-at n) .state .tally = sym (own (advanced t a)) ∙ ap (λ r. r .tally) q in
     rw add-one (subst (λ x. after x ≡ step (state-after n) (command-at n) .state) z q)
