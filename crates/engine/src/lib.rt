@@ -3,19 +3,20 @@ ghost use Rattle.wire.specs.Meaning.{command-of};
 ghost use Rattle.state.specs.View.{view, no-tally, Steps};
 ghost use Rattle.state.specs.Ready.{Shaped, Sized, Known};
 use state::Control;
+use state::Session;
 use state::Stepped;
 use wire::Command;
 
 // State and answer after a command are those of the rules.
 pub fn step(
     d: Control,
-    value: &mut [u32; 2048],
-    seen: &mut [u32; 2048],
-    mark: &mut [u8; 2048],
-    claim: &mut [u8; 2048],
-    standing: &mut [u8; 256],
-    content: &mut [u32; 64],
-    wct: &mut [u32; 64],
+    value: &mut [u32; Session::COPIES],
+    seen: &mut [u32; Session::COPIES],
+    mark: &mut [u8; Session::COPIES],
+    claim: &mut [u8; Session::COPIES],
+    standing: &mut [u8; Session::STANDING],
+    content: &mut [u32; Session::SHEETS],
+    wct: &mut [u32; Session::SHEETS],
     c: Command,
 ) -> Stepped
     requires { ⌜ Shaped d × Sized (now value) (now seen) (now mark) (now claim) (now standing) (now content) (now wct) × Known (view d (now value) (now seen) (now mark) (now claim) (now standing) (now content) (now wct) no-tally) ⌝ }

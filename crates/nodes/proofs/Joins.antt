@@ -1,5 +1,5 @@
 -- What TAKE stores is its rule's effect.
-use Prim.Native.Nat.{ℕ, suc, _+_, _*_, _≤_, _<_}
+use Prim.Native.Nat.{ℕ, _+_, _*_, _≤_, _<_}
 use mathlib.Core.Path.{_≡_, refl, sym, ap, subst, _∙_, fun-ext}
 use mathlib.Core.Bool.{Bool, true, false, _&&_, _||_, cond, or-true, or-false}
 use mathlib.Core.List.{List, [], _∷_, _++_}
@@ -7,7 +7,7 @@ use native.Mathlib.Omega.{arith}
 use native.Mathlib.Numerals.{add-one}
 use lib.ListN.{length, getD, set, take, length-set}
 use lib.Seq.{getD-set-same, getD-set-other, getD-take}
-use lib.Dec.{ltb, eqb}
+use lib.Dec.{eqb}
 use borrow.Author.Tests.{eq-eqb, ne-eqb, lt-ltb, le-ltb}
 use Rattle.rules.specs.Bytes.{Take}
 use Rattle.rules.specs.Table.{upd}
@@ -16,8 +16,9 @@ use Rattle.rules.specs.Steps as rules
 use Rattle.rules.specs.Steps.{finds-invalid}
 use Rattle.state.specs.declared.Control.{Control}
 use Rattle.state.specs.declared.Verdict.{Verdict}
+use Rattle.state.specs.declared.Verdict.the-variants.{Valid, Invalid}
 use Rattle.state.specs.declared.Answer.the-variants.{Took, Refused}
-use Rattle.state.specs.Places.{at, by, entries}
+use Rattle.state.specs.Places.{at, by}
 use Rattle.state.specs.View.{set?, claim-in, entered, queue-in, view, no-tally, verdict-of, Steps}
 use Rattle.state.specs.Ready.{Shaped, Ready}
 use Rattle.state.proofs.Tables.{same?, upd-by}
@@ -38,6 +39,13 @@ took d failed n = record {
   place = d .place;
   taken = set (d .taken) n (getD (d .taken) n 0 + 1);
 }
+
+-- the failed mark of an invalid save, and of a valid one
+failed-set : (l : List ℕ) (t : ℕ) → t < length l → _≡_ {A = ℕ → Bool} (λ j. set? (getD (set l t 1) j 0)) (upd (λ j. set? (getD l j 0)) t (set? (getD l t 0) || true))
+failed-set l t h = rw or-true (view-set set? l t 1 h)
+
+failed-keep : (l : List ℕ) (t : ℕ) → _≡_ {A = ℕ → Bool} (λ j. set? (getD l j 0)) (upd (λ j. set? (getD l j 0)) t (set? (getD l t 0) || false))
+failed-keep l t = upd-by (λ j. set? (getD l j 0)) (λ j. set? (getD l j 0)) t (set? (getD l t 0) || false) (sym (or-false (set? (getD l t 0)))) (λ j n. refl)
 
 module _ (d : Control) (ready : Ready d) where
   pub take-9 : (value seen mark claim standing content wct : List ℕ) (n : ℕ) → n < d .nodes → d .placed ≤ getD (d .taken) n 0
@@ -98,7 +106,7 @@ module _ (d : Control) (ready : Ready d) where
         (λ z. rw (getD-set-other (d .taken) n m (p + 1) 0 z, ne-eqb m n z) (before-same k m))
 
     -- the node finds t invalid, if b, and its verdict is v
-    pub take-steps : (value seen mark content wct failed : List ℕ) (b : Bool) (v : Verdict) → n < d .nodes → b ≡ finds-invalid (view d [] seen [] claim standing [] wct no-tally) n t
+    take-steps : (value seen mark content wct failed : List ℕ) (b : Bool) (v : Verdict) → n < d .nodes → b ≡ finds-invalid (view d [] seen [] claim standing [] wct no-tally) n t
         → verdict-of v ≡ rules.verdict b → _≡_ {A = ℕ → Bool} (λ j. set? (getD failed j 0)) (upd (λ j. set? (getD (d .failed) j 0)) t (set? (getD (d .failed) t 0) || b))
         → Steps (view d value seen mark claim standing content wct) (Take n) (view (took d failed n) value seen mark claim standing′ content wct) (Took t v)
     take-steps value seen mark content wct failed b v ln eb ev ef =
@@ -109,6 +117,15 @@ module _ (d : Control) (ready : Ready d) where
         (same-state refl refl (fun-ext (λ k. grows k (getD (d .owner) k 0))) refl refl refl refl (ef ∙ rw eb) refl refl refl
         (view-set (λ x. x) (d .taken) n (p + 1) (rw (ready .shaped .taken) n8) ∙ rw add-one) refl))
         (λ tally. rw (nx, ev, eb))
+
+    pub take-invalid : (value seen mark content wct : List ℕ) → n < d .nodes → true ≡ finds-invalid (view d [] seen [] claim standing [] wct no-tally) n t
+        → Steps (view d value seen mark claim standing content wct) (Take n) (view (took d (set (d .failed) t 1) n) value seen mark claim standing′ content wct) (Took t Invalid)
+    take-invalid value seen mark content wct ln e =
+        take-steps value seen mark content wct (set (d .failed) t 1) true Invalid ln e refl (failed-set (d .failed) t (rw (ready .shaped .failed) (ready .small p h)))
+
+    pub take-valid : (value seen mark content wct : List ℕ) → n < d .nodes → false ≡ finds-invalid (view d [] seen [] claim standing [] wct no-tally) n t
+        → Steps (view d value seen mark claim standing content wct) (Take n) (view (took d (d .failed) n) value seen mark claim standing′ content wct) (Took t Valid)
+    take-valid value seen mark content wct ln e = take-steps value seen mark content wct (d .failed) false Valid ln e refl (failed-keep (d .failed) t)
 
 pub took-shaped : (d : Control) (failed : List ℕ) (n : ℕ) → Shaped d → length failed ≡ 32 → Shaped (took d failed n)
 took-shaped d failed n z e = record {
@@ -121,10 +138,3 @@ took-shaped d failed n z e = record {
   taken = rw length-set (z .taken);
   fits = z .fits;
 }
-
--- the failed mark of an invalid save, and of a valid one
-pub failed-set : (l : List ℕ) (t : ℕ) → t < length l → _≡_ {A = ℕ → Bool} (λ j. set? (getD (set l t 1) j 0)) (upd (λ j. set? (getD l j 0)) t (set? (getD l t 0) || true))
-failed-set l t h = rw or-true (view-set set? l t 1 h)
-
-pub failed-keep : (l : List ℕ) (t : ℕ) → _≡_ {A = ℕ → Bool} (λ j. set? (getD l j 0)) (upd (λ j. set? (getD l j 0)) t (set? (getD l t 0) || false))
-failed-keep l t = upd-by (λ j. set? (getD l j 0)) (λ j. set? (getD l j 0)) t (set? (getD l t 0) || false) (sym (or-false (set? (getD l t 0)))) (λ j n. refl)

@@ -1,5 +1,5 @@
 // The commands at a node: TAKE and APPLY. Each does what its rule says.
-ghost use Prim.Native.Nat.{ℕ, _+_, _*_, _<_, _≤_};
+ghost use Prim.Native.Nat.{ℕ, _+_, _*_, _<_};
 ghost use mathlib.Core.Path.{_≡_};
 ghost use mathlib.Core.Bool.{_&&_, cond};
 ghost use mathlib.Core.List.{List};
@@ -12,16 +12,17 @@ ghost use Rattle.state.specs.Ready.{Shaped, Ready, Rising};
 ghost use Rattle.nodes.specs.Carry.{contents, wcts};
 use state::Answer;
 use state::Control;
+use state::Session;
 use state::Stepped;
 use state::Verdict;
 
 // Node n takes the next save of the order.
 pub fn take(
     mut d: Control,
-    seen: &[u32; 2048],
-    claim: &[u8; 2048],
-    standing: &mut [u8; 256],
-    wct: &[u32; 64],
+    seen: &[u32; Session::COPIES],
+    claim: &[u8; Session::COPIES],
+    standing: &mut [u8; Session::STANDING],
+    wct: &[u32; Session::SHEETS],
     n: u8,
 ) -> Stepped
     requires { ⌜ Ready d × (length (now standing) ≡ 256) ⌝ }
@@ -46,7 +47,7 @@ pub fn take(
     let t = d.order[pi];
     let ti = t as usize;
     let b = sheets::finds_invalid(d, seen, claim, standing, wct, n, t);
-    standing[ni * 32 + ti] = 1;
+    standing[ni * Session::SAVES + ti] = 1;
     d.taken[ni] = p + 1;
     if b {
         d.failed[ti] = 1;
@@ -90,10 +91,10 @@ fn raise(b: bool, w: u32) -> u32
 // The sheets of node n that save t wrote receive its contents, and their WCTs rise.
 fn carry_out(
     d: Control,
-    value: &[u32; 2048],
-    mark: &[u8; 2048],
-    content: &mut [u32; 64],
-    wct: &mut [u32; 64],
+    value: &[u32; Session::COPIES],
+    mark: &[u8; Session::COPIES],
+    content: &mut [u32; Session::SHEETS],
+    wct: &mut [u32; Session::SHEETS],
     n: u8,
     t: usize,
 )
@@ -103,9 +104,9 @@ fn carry_out(
 {
     let p = d.phase[t];
     let mut k: usize = 0;
-    while k < 64 {
+    while k < Session::SHEETS {
         let o = d.owner[k];
-        let i = t * 64 + k;
+        let i = t * Session::SHEETS + k;
         let m = mark[i];
         let g = receives(o, n, p, m);
         let v = pick(g, value[i], content[k]);
@@ -119,12 +120,12 @@ fn carry_out(
 // Node n carries out save t's outcome, and t's entries there go.
 pub fn apply(
     d: Control,
-    value: &[u32; 2048],
-    mark: &[u8; 2048],
-    claim: &[u8; 2048],
-    standing: &mut [u8; 256],
-    content: &mut [u32; 64],
-    wct: &mut [u32; 64],
+    value: &[u32; Session::COPIES],
+    mark: &[u8; Session::COPIES],
+    claim: &[u8; Session::COPIES],
+    standing: &mut [u8; Session::STANDING],
+    content: &mut [u32; Session::SHEETS],
+    wct: &mut [u32; Session::SHEETS],
     n: u8,
     t: u8,
 ) -> Answer
@@ -146,7 +147,7 @@ pub fn apply(
     let h = sheets::has_entry(d, claim, standing, n, t);
     if h {
         carry_out(d, value, mark, content, wct, n, ti);
-        standing[(n as usize) * 32 + ti] = 0;
+        standing[(n as usize) * Session::SAVES + ti] = 0;
         return Answer::Accepted;
     }
     Answer::Refused(11)

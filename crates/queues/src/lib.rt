@@ -7,6 +7,7 @@ ghost use Rattle.state.specs.Places.{at};
 ghost use Rattle.state.specs.View.{claim-in, queue-in};
 ghost use Rattle.state.specs.Ready.{Once};
 ghost use Rattle.queues.specs.Walk.{halt-of, halts, stop, least-of, Walk};
+use state::Session;
 
 // No save: a walk that is given it stops only by claims.
 const NO_SAVE: u8 = 32;
@@ -29,9 +30,9 @@ fn halt(e: u8, c: u8, u: u8, t: u8, least: u8) -> bool
 
 // The first of the first `upto` places whose save has an entry at sheet k of node n, and is t or claims `least` or more; upto if there is none.
 fn first(
-    order: &[u8; 32],
-    standing: &[u8; 256],
-    claim: &[u8; 2048],
+    order: &[u8; Session::SAVES],
+    standing: &[u8; Session::STANDING],
+    claim: &[u8; Session::COPIES],
     n: usize,
     k: usize,
     upto: usize,
@@ -45,8 +46,8 @@ fn first(
     while q < upto {
         let u = order[q];
         let ui = u as usize;
-        let e = standing[n * 32 + ui];
-        let c = claim[ui * 64 + k];
+        let e = standing[n * Session::SAVES + ui];
+        let c = claim[ui * Session::SHEETS + k];
         let h = halt(e, c, u, t, least);
         if h {
             return q;
@@ -58,9 +59,9 @@ fn first(
 
 // The queue of sheet k holds an X.
 pub fn holds_x(
-    order: &[u8; 32],
-    standing: &[u8; 256],
-    claim: &[u8; 2048],
+    order: &[u8; Session::SAVES],
+    standing: &[u8; Session::STANDING],
+    claim: &[u8; Session::COPIES],
     n: usize,
     k: usize,
     upto: usize,
@@ -74,9 +75,9 @@ pub fn holds_x(
 
 // The front entry of sheet k's queue is an X.
 pub fn front_x(
-    order: &[u8; 32],
-    standing: &[u8; 256],
-    claim: &[u8; 2048],
+    order: &[u8; Session::SAVES],
+    standing: &[u8; Session::STANDING],
+    claim: &[u8; Session::COPIES],
     n: usize,
     k: usize,
     upto: usize,
@@ -89,7 +90,7 @@ pub fn front_x(
         return false;
     }
     let u = order[q] as usize;
-    let c = claim[u * 64 + k];
+    let c = claim[u * Session::SHEETS + k];
     2 <= c
 }
 
@@ -105,9 +106,9 @@ fn least(c: u8) -> u8
 
 // Save t's entry at sheet k is granted, or t claims nothing there.
 pub fn granted_at(
-    order: &[u8; 32],
-    standing: &[u8; 256],
-    claim: &[u8; 2048],
+    order: &[u8; Session::SAVES],
+    standing: &[u8; Session::STANDING],
+    claim: &[u8; Session::COPIES],
     n: usize,
     k: usize,
     upto: usize,
@@ -116,7 +117,7 @@ pub fn granted_at(
     requires { ⌜ Walk (now order) n k upto × (t < 32) ⌝ }
     ensures { λ r. ⌜ ((place : ℕ → ℕ) → Once (now (order .entry)) place upto → r ≡ granted-as (claim-in (now (claim .entry)) t k) (x-on (claim-in (now (claim .entry))) k) (before t (queue-in (now (order .entry)) place (now (standing .entry)) (now (claim .entry)) n k upto))) ⌝ }
 {
-    let c = claim[(t as usize) * 64 + k];
+    let c = claim[(t as usize) * Session::SHEETS + k];
     if c == 0 {
         return true;
     }

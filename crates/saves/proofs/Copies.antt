@@ -7,9 +7,8 @@ use mathlib.Core.List.{List}
 use native.Mathlib.Omega.{arith}
 use lib.ListN.{length, getD, set}
 use lib.Dec.{eqb, leb}
-use borrow.Author.Tests.{eq-eqb, ne-eqb, lt-ltb}
+use borrow.Author.Tests.{ne-eqb, lt-ltb}
 use Rattle.rules.specs.Bytes.{Read, Write}
-use Rattle.rules.specs.Table.{upd2}
 use Rattle.rules.specs.State.{Sheet, Mark, absent, copied, written, Tally, State, has-copy}
 use Rattle.rules.specs.Steps.{at-front, x-on, read-mark, read-copy}
 use Rattle.state.specs.declared.Control.{Control}

@@ -1,6 +1,6 @@
 -- DECIDE: what it stores is its rule's effect.
 use Prim.Native.Nat.{ℕ, _+_, _*_, _<_}
-use mathlib.Core.Path.{_≡_, refl, sym, _∙_}
+use mathlib.Core.Path.{_≡_, refl, _∙_}
 use mathlib.Core.Bool.{Bool, true, false, not, _&&_, _||_, cond}
 use mathlib.Core.Logic.{_≢_}
 use mathlib.Core.List.{List, []}
@@ -12,7 +12,7 @@ use borrow.Author.Tests.{ne-eqb, lt-ltb}
 use Rattle.rules.specs.Bytes.{Decide}
 use Rattle.rules.specs.Table.{all}
 use Rattle.rules.specs.State.{Tally, State, absent, claims}
-use Rattle.rules.specs.Steps.{Checked, pass, refuse, has-taken, granted}
+use Rattle.rules.specs.Steps.{pass, refuse, has-taken, granted}
 use Rattle.state.specs.declared.Control.{Control}
 use Rattle.state.specs.declared.Answer.the-variants.{Commits, SecondRun, Refused}
 use Rattle.state.specs.View.{as-phase, as-mark, flat, claim-in, view, no-tally, Steps}

@@ -1,5 +1,5 @@
 // The commands of a save: BEGIN, READ, WRITE, SUBMIT, DECIDE and GIVE UP. Each does what its rule says.
-ghost use Prim.Native.Nat.{ℕ, _+_, _*_, _<_, _≤_};
+ghost use Prim.Native.Nat.{ℕ, _+_, _*_, _<_};
 ghost use mathlib.Core.Path.{_≡_};
 ghost use mathlib.Core.Bool.{_&&_, _||_, not};
 ghost use mathlib.Core.List.{List, []};
@@ -15,6 +15,7 @@ ghost use Rattle.state.specs.Ready.{Shaped, Once, Ready};
 ghost use Rattle.queues.specs.Walk.{Walk};
 use state::Answer;
 use state::Control;
+use state::Session;
 use state::Stepped;
 
 // A save of phase p is in its first or second run.
@@ -106,9 +107,9 @@ fn writable(p: u8, c: u8) -> bool
 
 // A save of phase p is in its first run, and finds an X at the front of sheet k's queue.
 fn blocked(
-    order: &[u8; 32],
-    standing: &[u8; 256],
-    claim: &[u8; 2048],
+    order: &[u8; Session::SAVES],
+    standing: &[u8; Session::STANDING],
+    claim: &[u8; Session::COPIES],
     n: usize,
     k: usize,
     upto: usize,
@@ -126,13 +127,13 @@ fn blocked(
 // A save is answered from its own copy of the sheet, which is made first where it has none.
 pub fn read(
     d: Control,
-    value: &mut [u32; 2048],
-    seen: &mut [u32; 2048],
-    mark: &mut [u8; 2048],
-    claim: &[u8; 2048],
-    standing: &[u8; 256],
-    content: &[u32; 64],
-    wct: &[u32; 64],
+    value: &mut [u32; Session::COPIES],
+    seen: &mut [u32; Session::COPIES],
+    mark: &mut [u8; Session::COPIES],
+    claim: &[u8; Session::COPIES],
+    standing: &[u8; Session::STANDING],
+    content: &[u32; Session::SHEETS],
+    wct: &[u32; Session::SHEETS],
     t: u8,
     k: u8,
 ) -> Answer
@@ -148,7 +149,7 @@ pub fn read(
     }
     let ti = t as usize;
     let ki = k as usize;
-    let i = ti * 64 + ki;
+    let i = ti * Session::SHEETS + ki;
     let p = d.phase[ti];
     let run = running(p);
     if !run {
@@ -181,9 +182,9 @@ pub fn read(
 // The save's own copy of the sheet is changed.
 pub fn write(
     d: Control,
-    value: &mut [u32; 2048],
-    mark: &mut [u8; 2048],
-    claim: &[u8; 2048],
+    value: &mut [u32; Session::COPIES],
+    mark: &mut [u8; Session::COPIES],
+    claim: &[u8; Session::COPIES],
     t: u8,
     k: u8,
     v: u32,
@@ -200,7 +201,7 @@ pub fn write(
     }
     let ti = t as usize;
     let ki = k as usize;
-    let i = ti * 64 + ki;
+    let i = ti * Session::SHEETS + ki;
     let p = d.phase[ti];
     let run = running(p);
     if !run {
@@ -221,20 +222,25 @@ pub fn write(
 }
 
 // Save t's marks become its claim: a copy is an S, a written one an X.
-fn claim_row(claim: &mut [u8; 2048], mark: &[u8; 2048], t: usize)
+fn claim_row(claim: &mut [u8; Session::COPIES], mark: &[u8; Session::COPIES], t: usize)
     requires { ⌜ t < 32 ⌝ }
     ensures { λ _. ⌜ now (claim .exit) ≡ fill (λ j. getD (now (mark .entry)) (t * 64 + j) 0) (t * 64) 64 (now (claim .entry)) ⌝ }
 {
     let mut k: usize = 0;
-    while k < 64 {
-        let m = mark[t * 64 + k];
-        claim[t * 64 + k] = m;
+    while k < Session::SHEETS {
+        let m = mark[t * Session::SHEETS + k];
+        claim[t * Session::SHEETS + k] = m;
         k += 1;
     }
 }
 
 // First run: the save joins the end of the order with its claim. Second run: it is committed.
-pub fn submit(mut d: Control, mark: &[u8; 2048], claim: &mut [u8; 2048], t: u8) -> Stepped
+pub fn submit(
+    mut d: Control,
+    mark: &[u8; Session::COPIES],
+    claim: &mut [u8; Session::COPIES],
+    t: u8,
+) -> Stepped
     requires { ⌜ Ready d × (length (now claim) ≡ 2048) ⌝ }
     ensures { λ r. ⌜ ((value seen standing content wct : List ℕ) → Steps (view d value seen (now (mark .entry)) (now (claim .entry)) standing content wct) (Submit t) (view (r .control) value seen (now (mark .entry)) (now (claim .exit)) standing content wct) (r .answer)) ⌝ }
     ensures kept { λ r. ⌜ (length (now (claim .exit)) ≡ 2048) × Shaped (r .control) ⌝ }
@@ -274,19 +280,24 @@ pub fn submit(mut d: Control, mark: &[u8; 2048], claim: &mut [u8; 2048], t: u8) 
 }
 
 // Save t has no copy any more.
-fn clear_row(mark: &mut [u8; 2048], t: usize)
+fn clear_row(mark: &mut [u8; Session::COPIES], t: usize)
     requires { ⌜ t < 32 ⌝ }
     ensures { λ _. ⌜ now (mark .exit) ≡ fill (λ j. 0) (t * 64) 64 (now (mark .entry)) ⌝ }
 {
     let mut k: usize = 0;
-    while k < 64 {
-        mark[t * 64 + k] = 0;
+    while k < Session::SHEETS {
+        mark[t * Session::SHEETS + k] = 0;
         k += 1;
     }
 }
 
 // Save t was taken by every node that owns a claimed sheet, and its entries are granted.
-fn decidable(d: Control, claim: &[u8; 2048], standing: &[u8; 256], t: u8) -> bool
+fn decidable(
+    d: Control,
+    claim: &[u8; Session::COPIES],
+    standing: &[u8; Session::STANDING],
+    t: u8,
+) -> bool
     requires { ⌜ Ready d × (t < 32) ⌝ }
     ensures { λ r. ⌜ r ≡ (all (d .sheets) (λ k. not (claims (claim-in (now (claim .entry)) t k)) || has-taken (view d [] [] [] (now (claim .entry)) [] [] [] no-tally) (getD (d .owner) k 0) t) && all (d .sheets) (λ k. granted (view d [] [] [] (now (claim .entry)) (now (standing .entry)) [] [] no-tally) t k)) ⌝ }
 {
@@ -300,9 +311,9 @@ fn decidable(d: Control, claim: &[u8; 2048], standing: &[u8; 256], t: u8) -> boo
 // A save that did not fail is committed, a failed one enters its second run.
 pub fn decide(
     mut d: Control,
-    mark: &mut [u8; 2048],
-    claim: &[u8; 2048],
-    standing: &[u8; 256],
+    mark: &mut [u8; Session::COPIES],
+    claim: &[u8; Session::COPIES],
+    standing: &[u8; Session::STANDING],
     t: u8,
 ) -> Stepped
     requires { ⌜ Ready d × (length (now mark) ≡ 2048) ⌝ }

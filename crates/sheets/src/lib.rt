@@ -14,14 +14,15 @@ ghost use Rattle.state.specs.View.{set?, flat, claim-in, queue-in, view, no-tal
 ghost use Rattle.state.specs.Ready.{Once, Ready};
 ghost use Rattle.queues.specs.Walk.{Walk};
 use state::Control;
+use state::Session;
 
 // Node n, which owns sheet k if o is n, finds save t invalid there.
 fn fails_at(
-    order: &[u8; 32],
-    seen: &[u32; 2048],
-    claim: &[u8; 2048],
-    standing: &[u8; 256],
-    wct: &[u32; 64],
+    order: &[u8; Session::SAVES],
+    seen: &[u32; Session::COPIES],
+    claim: &[u8; Session::COPIES],
+    standing: &[u8; Session::STANDING],
+    wct: &[u32; Session::SHEETS],
     o: u8,
     n: u8,
     upto: usize,
@@ -34,7 +35,7 @@ fn fails_at(
     if o != n {
         return false;
     }
-    let i = (t as usize) * 64 + k;
+    let i = (t as usize) * Session::SHEETS + k;
     let c = claim[i];
     if c == 0 {
         return false;
@@ -50,10 +51,10 @@ fn fails_at(
 // TAKE: node n finds save t invalid at one of its sheets.
 pub fn finds_invalid(
     d: Control,
-    seen: &[u32; 2048],
-    claim: &[u8; 2048],
-    standing: &[u8; 256],
-    wct: &[u32; 64],
+    seen: &[u32; Session::COPIES],
+    claim: &[u8; Session::COPIES],
+    standing: &[u8; Session::STANDING],
+    wct: &[u32; Session::SHEETS],
     n: u8,
     t: u8,
 ) -> bool
@@ -85,7 +86,7 @@ fn taken_at(c: u8, p: u8, m: u8) -> bool
 }
 
 // DECIDE: save t was taken by every node that owns a claimed sheet.
-pub fn all_taken(d: Control, claim: &[u8; 2048], t: u8) -> bool
+pub fn all_taken(d: Control, claim: &[u8; Session::COPIES], t: u8) -> bool
     requires { ⌜ Ready d × (t < 32) ⌝ }
     ensures { λ r. ⌜ r ≡ all (d .sheets) (λ k. not (claims (claim-in (now (claim .entry)) t k)) || has-taken (view d [] [] [] (now (claim .entry)) [] [] [] no-tally) (getD (d .owner) k 0) t) ⌝ }
 {
@@ -96,7 +97,7 @@ pub fn all_taken(d: Control, claim: &[u8; 2048], t: u8) -> bool
         k -= 1;
         let o = d.owner[k] as usize;
         let m = d.taken[o];
-        let c = claim[ti * 64 + k];
+        let c = claim[ti * Session::SHEETS + k];
         let h = taken_at(c, p, m);
         if h {} else {
             return false;
@@ -106,7 +107,12 @@ pub fn all_taken(d: Control, claim: &[u8; 2048], t: u8) -> bool
 }
 
 // DECIDE: save t's entries are granted.
-pub fn all_granted(d: Control, claim: &[u8; 2048], standing: &[u8; 256], t: u8) -> bool
+pub fn all_granted(
+    d: Control,
+    claim: &[u8; Session::COPIES],
+    standing: &[u8; Session::STANDING],
+    t: u8,
+) -> bool
     requires { ⌜ Ready d × (t < 32) ⌝ }
     ensures { λ r. ⌜ r ≡ all (d .sheets) (λ k. granted (view d [] [] [] (now (claim .entry)) (now (standing .entry)) [] [] no-tally) t k) ⌝ }
 {
@@ -124,11 +130,18 @@ pub fn all_granted(d: Control, claim: &[u8; 2048], standing: &[u8; 256], t: u8) 
 }
 
 // Save t, of place q, is one of the first `upto`, and stands at node n.
-fn stands(order: &[u8; 32], standing: &[u8; 256], n: usize, upto: usize, t: u8, q: usize) -> bool
+fn stands(
+    order: &[u8; Session::SAVES],
+    standing: &[u8; Session::STANDING],
+    n: usize,
+    upto: usize,
+    t: u8,
+    q: usize,
+) -> bool
     requires { ⌜ (n < 8) × (t < 32) × (upto ≤ 32) ⌝ }
     ensures { λ r. ⌜ r ≡ (set? (getD (now (standing .entry)) (n * 32 + t) 0) && (ltb q upto && eqb (at (now (order .entry)) q) t)) ⌝ }
 {
-    let e = standing[n * 32 + (t as usize)];
+    let e = standing[n * Session::SAVES + (t as usize)];
     if e == 0 {
         return false;
     }
@@ -150,7 +163,7 @@ fn claimed_here(o: u8, n: u8, c: u8) -> bool
 }
 
 // Save t claims a sheet of node n.
-fn claims_here(d: Control, claim: &[u8; 2048], n: u8, t: u8) -> bool
+fn claims_here(d: Control, claim: &[u8; Session::COPIES], n: u8, t: u8) -> bool
     requires { ⌜ Ready d × (t < 32) ⌝ }
     ensures { λ r. ⌜ r ≡ any (d .sheets) (λ k. eqb (getD (d .owner) k 0) n && claims (claim-in (now (claim .entry)) t k)) ⌝ }
 {
@@ -159,7 +172,7 @@ fn claims_here(d: Control, claim: &[u8; 2048], n: u8, t: u8) -> bool
     while 0 < k {
         k -= 1;
         let o = d.owner[k];
-        let c = claim[ti * 64 + k];
+        let c = claim[ti * Session::SHEETS + k];
         let h = claimed_here(o, n, c);
         if h {
             return true;
@@ -169,7 +182,13 @@ fn claims_here(d: Control, claim: &[u8; 2048], n: u8, t: u8) -> bool
 }
 
 // APPLY: save t has an entry at node n.
-pub fn has_entry(d: Control, claim: &[u8; 2048], standing: &[u8; 256], n: u8, t: u8) -> bool
+pub fn has_entry(
+    d: Control,
+    claim: &[u8; Session::COPIES],
+    standing: &[u8; Session::STANDING],
+    n: u8,
+    t: u8,
+) -> bool
     requires { ⌜ Ready d × (n < 8) × (t < 32) ⌝ }
     ensures { λ r. ⌜ r ≡ has-entry (view d [] [] [] (now (claim .entry)) (now (standing .entry)) [] [] no-tally) n t ⌝ }
 {

@@ -1,6 +1,6 @@
 -- What is known of the rules' state holds of the arrays that show it.
 use Prim.Native.Nat.{ℕ, zero, suc, _≤_, _<_}
-use mathlib.Core.Path.{_≡_, refl, sym, ap, _∙_}
+use mathlib.Core.Path.{_≡_, refl, sym, _∙_}
 use mathlib.Core.Bool.{true, false, true≢false}
 use mathlib.Core.List.{List, [], _∷_}
 use native.Mathlib.Omega.{arith}
@@ -59,6 +59,21 @@ module _ (d : Control) (value seen mark claim standing content wct : List ℕ) (
       where
         first : {p : ℕ} → p ≡ 1 → is-first (as-phase p) ≡ true
         first e = rw e
+
+  -- nothing is known of the tally
+  pub known-any : (other : Tally) → Known (view d value seen mark claim standing content wct other)
+  known-any other = record {
+    nodes8 = known .nodes8;
+    sheets64 = known .sheets64;
+    owners = known .owners;
+    takens = known .takens;
+    small = known .small;
+    once = known .once;
+    joined = known .joined;
+    room = known .room;
+    runs = known .runs;
+    rises = known .rises;
+  }
 
   pub rising : length wct ≡ 64 → Rising wct
   rising e k = let z = everywhere wct 64 4294967294 e (λ i l. let y = known .rises i l in omega arith) k in omega arith

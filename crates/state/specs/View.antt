@@ -6,7 +6,7 @@ use mathlib.Core.List.{List}
 use lib.ListN.{getD, take}
 use lib.Dec.{eqb, ltb}
 use Rattle.rules.specs.Bytes.{Header, Command}
-use Rattle.rules.specs.State.{Sheet, Phase, unused, first, submitted, second, committed, dropped, Mark, absent, copied, written, Claim, unclaimed, shared, exclusive, Tally, State, claims}
+use Rattle.rules.specs.State.{Phase, unused, first, submitted, second, committed, dropped, Mark, absent, copied, written, Claim, unclaimed, shared, exclusive, Tally, State, claims}
 use Rattle.rules.specs.Steps as rules
 use Rattle.rules.specs.Steps.{Result, answered, refused, step, counted, counted-first, counted-second}
 use Rattle.state.specs.declared.Control.{Control}

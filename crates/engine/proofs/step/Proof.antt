@@ -1,5 +1,4 @@
 -- Each arm hands on its command's contract.
-use mathlib.Core.Path.{_≡_}
 use Rattle.state.specs.View.{no-tally}
 use Rattle.state.proofs.Ready.{ready, rising}
 use borrow.Author.Needs.{needs}

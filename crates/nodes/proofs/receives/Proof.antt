@@ -1,6 +1,5 @@
 -- The three tests in turn.
 use borrow.Author.Tests.{eq-eqb, ne-eqb}
-use borrow.Author.Needs.{needs}
 use Rattle.nodes.proofs.receives.Statement.{statement}
 use Rattle.nodes.proofs.receives.Tie as tie
 

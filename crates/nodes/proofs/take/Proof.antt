@@ -1,14 +1,11 @@
 -- A refusal for each test, and the effect for each verdict.
-use Prim.Native.Nat.{ℕ, _+_, _*_, _<_}
-use mathlib.Core.Path.{_≡_, refl, sym, _∙_}
-use mathlib.Core.Bool.{true, false}
+use mathlib.Core.Path.{sym, _∙_}
 use native.Mathlib.Omega.{arith}
 use lib.ListN.{getD, set, length-set}
 use borrow.Author.Tests.{le-ltb}
 use Rattle.state.specs.Places.{at}
-use Rattle.state.specs.declared.Verdict.the-variants.{Valid, Invalid}
 use Rattle.state.proofs.Steps.{refused}
-use Rattle.nodes.proofs.Joins.{take-9, take-steps, failed-set, failed-keep, took-shaped}
+use Rattle.nodes.proofs.Joins.{take-9, take-invalid, take-valid, took-shaped}
 use borrow.Author.Needs.{needs}
 use Rattle.nodes.proofs.take.Statement.{statement}
 use Rattle.nodes.proofs.take.Tie as tie
@@ -69,13 +66,11 @@ returns-3 c =
     let a = s .args in
     let d = a .t1 in
     let r = s .pre .0 in
-    let h : getD (d .taken) (a .n) 0 < d .placed = c .before .before .before .before .if2 .left in
-    let t = at (d .order) (getD (d .taken) (a .n) 0) in
-    let t32 = r .small (getD (d .taken) (a .n) 0) h in (
+    let h = c .before .before .before .before .if2 .left in (
       (λ value mark content.
-          take-steps d r (a .claim .now) (a .standing .now) (a .n) (omega (arith, r .nodes8)) (s .pre .1) h value (a .seen .now) mark content (a .wct .now) (set (d .failed) t 1) true Invalid
-          (c .before .before .before .before .before .before .if1 .left) (sym (c .if3 .taken) ∙ c .before .finds-invalid .ensures) refl (failed-set (d .failed) t (rw (r .shaped .failed) t32))),
-      (search needs, took-shaped d (set (d .failed) t 1) (a .n) (r .shaped) (rw length-set (r .shaped .failed))),
+          take-invalid d r (a .claim .now) (a .standing .now) (a .n) (omega (arith, r .nodes8)) (s .pre .1) h value (a .seen .now) mark content (a .wct .now)
+          (c .before .before .before .before .before .before .if1 .left) (sym (c .if3 .taken) ∙ c .before .finds-invalid .ensures)),
+      (search needs, took-shaped d (set (d .failed) (at (d .order) (getD (d .taken) (a .n) 0)) 1) (a .n) (r .shaped) (rw length-set (r .shaped .failed))),
     )
 
 returns-4 : tie.Need-returns-4
@@ -84,12 +79,10 @@ returns-4 c =
     let a = s .args in
     let d = a .t1 in
     let r = s .pre .0 in
-    let h : getD (d .taken) (a .n) 0 < d .placed = c .before .before .before .before .if2 .left in
-    let t = at (d .order) (getD (d .taken) (a .n) 0) in
-    let t32 = r .small (getD (d .taken) (a .n) 0) h in (
+    let h = c .before .before .before .before .if2 .left in (
       (λ value mark content.
-          take-steps d r (a .claim .now) (a .standing .now) (a .n) (omega (arith, r .nodes8)) (s .pre .1) h value (a .seen .now) mark content (a .wct .now) (d .failed) false Valid
-          (c .before .before .before .before .before .before .if1 .left) (sym (c .if3 .left) ∙ c .before .finds-invalid .ensures) refl (failed-keep (d .failed) t)),
+          take-valid d r (a .claim .now) (a .standing .now) (a .n) (omega (arith, r .nodes8)) (s .pre .1) h value (a .seen .now) mark content (a .wct .now)
+          (c .before .before .before .before .before .before .if1 .left) (sym (c .if3 .left) ∙ c .before .finds-invalid .ensures)),
       (search needs, took-shaped d (d .failed) (a .n) (r .shaped) (r .shaped .failed)),
     )
 

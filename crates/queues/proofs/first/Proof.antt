@@ -3,14 +3,11 @@ use Rattle.queues.proofs.Walk.{stop-here, stop-on, stop-end}
 use Rattle.state.specs.Places.{at}
 use native.Mathlib.Nat.{sub-zero}
 use native.Mathlib.Omega.{arith}
-use Prim.Native.Nat.{ℕ, _+_, _-_, _*_, _≤_, _<_}
+use Prim.Native.Nat.{_-_, _≤_}
 use mathlib.Core.Path.{_≡_, sym, _∙_}
 use borrow.Author.Needs.{needs}
 use Rattle.queues.proofs.first.Statement.{statement}
 use Rattle.queues.proofs.first.Tie as tie
-use Rattle.queues.proofs.first.Reads as reads
-use Rattle.queues.proofs.first.Lts as lts
-use Rattle.queues.proofs.halt.Reads as halt-reads
 
 abbrev Inv-loop : tie.InvT-loop
 Inv-loop order standing claim n k upto t least q₀ q = (q ≤ upto) × (stop (at order) (halts standing claim n k t least) 0 upto ≡ stop (at order) (halts standing claim n k t least) q (upto - q))

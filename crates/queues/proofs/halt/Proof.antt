@@ -1,9 +1,6 @@
 use borrow.Author.Tests.{eq-eqb, ne-eqb}
-use borrow.Author.Needs.{needs}
 use Rattle.queues.proofs.halt.Statement.{statement}
 use Rattle.queues.proofs.halt.Tie as tie
-use Rattle.queues.proofs.halt.Reads as reads
-use Rattle.queues.proofs.halt.Lts as lts
 
 returns : tie.Need-returns
 returns c = simp (eq-eqb _ _ (c .if1 .taken))

@@ -1,5 +1,5 @@
 -- The walk to the first X ends before the last place.
-use mathlib.Core.Path.{_∙_, sym}
+use mathlib.Core.Path.{sym}
 use Rattle.queues.proofs.Walk.{queue-holds-x}
 use borrow.Author.Needs.{needs}
 use Rattle.queues.proofs.holds_x.Statement.{statement}

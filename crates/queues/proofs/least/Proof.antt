@@ -1,9 +1,6 @@
 use borrow.Author.Tests.{le-leb, lt-leb}
-use borrow.Author.Needs.{needs}
 use Rattle.queues.proofs.least.Statement.{statement}
 use Rattle.queues.proofs.least.Tie as tie
-use Rattle.queues.proofs.least.Reads as reads
-use Rattle.queues.proofs.least.Lts as lts
 
 returns : tie.Need-returns
 returns c = simp (le-leb _ _ (c .if1 .taken))

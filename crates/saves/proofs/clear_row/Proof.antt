@@ -2,8 +2,8 @@
 use Rattle.state.specs.Fill.{fill}
 use Rattle.state.proofs.Stores.{fill-on}
 use native.Mathlib.Omega.{arith}
-use Prim.Native.Nat.{ℕ, _+_, _-_, _*_, _≤_, _<_}
-use mathlib.Core.Path.{_≡_, refl, sym, _∙_}
+use Prim.Native.Nat.{_-_, _*_, _≤_}
+use mathlib.Core.Path.{_≡_, refl, _∙_}
 use borrow.Author.Needs.{needs}
 use Rattle.saves.proofs.clear_row.Statement.{statement}
 use Rattle.saves.proofs.clear_row.Tie as tie

@@ -1,5 +1,5 @@
 -- A refusal for each test, and the effect.
-use mathlib.Core.Path.{_≡_, sym, _∙_}
+use mathlib.Core.Path.{sym, _∙_}
 use lib.ListN.{length-set}
 use borrow.Author.Tests.{le-ltb, not-true, not-false}
 use Rattle.state.proofs.Steps.{refused}

@@ -1,5 +1,5 @@
 -- A refusal for each test, and the answer from an own copy or from a new one.
-use mathlib.Core.Path.{_≡_, sym, _∙_}
+use mathlib.Core.Path.{sym, _∙_}
 use native.Mathlib.Omega.{arith}
 use lib.ListN.{getD, length-set}
 use borrow.Author.Tests.{lt-ltb, le-ltb, not-true, not-false}

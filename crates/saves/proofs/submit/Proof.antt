@@ -1,6 +1,4 @@
 -- A refusal for each test, and the effect in each run.
-use Prim.Native.Nat.{_<_, _+_, _≤_}
-use mathlib.Core.Path.{_≡_, refl}
 use native.Mathlib.Omega.{arith}
 use lib.ListN.{length-set}
 use borrow.Author.Tests.{le-ltb}

@@ -1,6 +1,5 @@
 -- The two tests in turn.
 use borrow.Author.Tests.{eq-eqb, ne-eqb}
-use borrow.Author.Needs.{needs}
 use Rattle.saves.proofs.writable.Statement.{statement}
 use Rattle.saves.proofs.writable.Tie as tie
 

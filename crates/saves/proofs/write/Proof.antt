@@ -1,5 +1,5 @@
 -- A refusal for each test, and the effect.
-use mathlib.Core.Path.{_≡_, sym, _∙_}
+use mathlib.Core.Path.{sym, _∙_}
 use borrow.Author.Tests.{lt-ltb, le-ltb, not-true, not-false}
 use Rattle.state.proofs.Steps.{refused}
 use Rattle.saves.proofs.Copies.{write-5, write-8, write-7, write-steps}

@@ -1,6 +1,5 @@
 -- The two tests in turn.
 use borrow.Author.Tests.{eq-eqb, ne-eqb}
-use borrow.Author.Needs.{needs}
 use Rattle.sheets.proofs.claimed_here.Statement.{statement}
 use Rattle.sheets.proofs.claimed_here.Tie as tie
 

@@ -1,7 +1,6 @@
 -- The rule's tests in turn; the walk comes last.
 use borrow.Author.Tests.{eq-eqb, ne-eqb, lt-ltb, le-ltb}
 use mathlib.Core.Bool.{or-true, or-false}
-use mathlib.Core.Path.{sym}
 use Rattle.state.proofs.Codes.{claims-code}
 use Rattle.state.proofs.Stores.{flat-in}
 use borrow.Author.Needs.{needs}

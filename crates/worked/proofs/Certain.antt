@@ -1,0 +1,73 @@
+-- The worked session's states: antt computes at each what a step may rely on, and a step leads from one to the next.
+use Prim.Native.Nat.{ℕ, zero, suc, _+_, _<_}
+use mathlib.Core.Path.{_≡_, refl, sym, ap, subst, _∙_}
+use mathlib.Core.Bool.{Bool, true, false, not, _&&_}
+use native.Mathlib.Omega.{arith}
+use native.Mathlib.Nat.{not-suc-le-zero}
+use native.Mathlib.Numerals.{add-one}
+use lib.ListN.{length}
+use lib.Dec.{eqb, leb, ltb}
+use borrow.Author.Tests.{ltb-true, leb-true, eqb-true, not-true}
+use Rattle.rules.specs.Table.{upd, upd2, row, all, any}
+use Rattle.rules.specs.Bytes.{Command}
+use Rattle.rules.specs.State.{Tally, State, is-first, fresh}
+use Rattle.rules.specs.Steps.{x-on, step}
+use Rattle.state.specs.declared.Answer.{Answer}
+use Rattle.state.specs.Places.{at}
+use Rattle.state.specs.View.{advanced, Steps}
+use Rattle.state.specs.Ready.{Known}
+use Rattle.state.proofs.Tables.{same?}
+use Rattle.state.proofs.Steps.{state-stepped}
+use Rattle.worked.specs.Worked.{command-at, state-after}
+
+left : (a b : Bool) → a && b ≡ true → a ≡ true
+left true b e = refl
+left false b e = e
+
+right : (a b : Bool) → a && b ≡ true → b ≡ true
+right true b e = e
+right false true e = refl
+right false false e = e
+
+all-at : (n : ℕ) (f : ℕ → Bool) → all n f ≡ true → (i : ℕ) → i < n → f i ≡ true
+unfolding all
+all-at zero f e i h = absurd (not-suc-le-zero h)
+all-at (suc n) f e i h = same? i n (λ q. rw q (left (f n) (all n f) e)) (λ q. all-at n f (right (f n) (all n f) e) i (omega arith))
+
+-- a test that antt computes at every state
+once-each : (f : State → Bool) → all 17 (λ n. f (state-after n)) ≡ true → (n : ℕ) → n < 17 → f (state-after n) ≡ true
+once-each f e = all-at 17 (λ n. f (state-after n)) e
+
+-- and at every number below a bound there
+each : (bound : State → ℕ) (f : State → ℕ → Bool) → all 17 (λ n. all (bound (state-after n)) (f (state-after n))) ≡ true
+    → (n : ℕ) → n < 17 → (i : ℕ) → i < bound (state-after n) → f (state-after n) i ≡ true
+each bound f e n h = all-at (bound (state-after n)) (f (state-after n)) (all-at 17 (λ m. all (bound (state-after m)) (f (state-after m))) e n h)
+
+module _ (n : ℕ) (h : n < 17) where
+  abbrev s : State
+  s = state-after n
+
+  pub known-after : Known (state-after n)
+  unfolding all any upd upd2 row x-on fresh state-after
+  known-after = record {
+    nodes8 = leb-true (s .header .nodes) 8 (once-each (λ s. leb (s .header .nodes) 8) refl n h);
+    sheets64 = leb-true (s .header .sheets) 64 (once-each (λ s. leb (s .header .sheets) 64) refl n h);
+    owners = λ k l. ltb-true (s .header .owner k) 8 (each (λ s. 64) (λ s k. ltb (s .header .owner k) 8) refl n h k l);
+    takens = λ m l. leb-true (s .taken m) (length (s .order)) (each (λ s. 8) (λ s m. leb (s .taken m) (length (s .order))) refl n h m l);
+    small = λ q l. ltb-true (at (s .order) q) 32 (each (λ s. length (s .order)) (λ s q. ltb (at (s .order) q) 32) refl n h q l);
+    once = λ q l. eqb-true (s .place (at (s .order) q)) q (each (λ s. length (s .order)) (λ s q. eqb (s .place (at (s .order) q)) q) refl n h q l);
+    joined = λ q l. not-true (is-first (s .phase (at (s .order) q))) (each (λ s. length (s .order)) (λ s q. not (is-first (s .phase (at (s .order) q)))) refl n h q l);
+    room = λ t l f. ltb-true (length (s .order)) 32 (once-each (λ s. ltb (length (s .order)) 32) refl n h);
+    runs = λ t l. ltb-true (s .runs t) 255 (each (λ s. 32) (λ s t. ltb (s .runs t) 255) refl n h t l);
+    rises = λ k l. ltb-true (s .sheet k .wct) 4294967295 (each (λ s. 64) (λ s k. ltb (s .sheet k .wct) 4294967295) refl n h k l);
+  }
+
+-- one step on
+pub onward : (before after : Tally → State) (a : Answer) (n : ℕ) (c : Command) → ((tally : Tally) → after tally .tally ≡ tally)
+    → before (state-after n .tally) ≡ state-after n → c ≡ command-at n → Steps before c after a → after (state-after (n + 1) .tally) ≡ state-after (n + 1)
+unfolding state-after
+onward before after a n c own e f s =
+    let t = state-after n .tally in
+    let q : after (advanced t a) ≡ step (state-after n) (command-at n) .state = state-stepped s e ∙ rw f in
+    let z : advanced t a ≡ step (state-after n) (command-at n) .state .tally = sym (own (advanced t a)) ∙ ap (λ r. r .tally) q in
+    rw add-one (subst (λ x. after x ≡ step (state-after n) (command-at n) .state) z q)

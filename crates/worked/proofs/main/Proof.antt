@@ -1,0 +1,79 @@
+-- The arrays show the rules' state after the commands so far.
+use Prim.Native.Nat.{_-_, _≤_}
+use mathlib.Core.Path.{_≡_, refl, sym, subst}
+use native.Mathlib.Omega.{arith}
+use Rattle.rules.specs.State.{fresh}
+use Rattle.wire.specs.Meaning.{command-of}
+use Rattle.state.specs.View.{view, no-tally}
+use Rattle.state.specs.Ready.{Shaped, Sized, Known}
+use Rattle.state.proofs.Ready.{known-any}
+use Rattle.worked.specs.Worked.{state-after}
+use Rattle.worked.proofs.Certain.{known-after, onward}
+use borrow.Author.Needs.{needs}
+use Rattle.worked.proofs.main.Statement.{statement}
+use Rattle.worked.proofs.main.Tie as tie
+
+abbrev Inv-loop : tie.InvT-loop
+Inv-loop d₀ value₀ seen₀ mark₀ claim₀ standing₀ content₀ wct₀ i₀ d value seen mark claim standing content wct i = (i ≤ 17) × Shaped d × Sized value seen mark claim standing content wct × (view d value seen mark claim standing content wct (state-after i .tally) ≡ state-after i)
+
+abbrev μ-loop : tie.MeasureT-loop
+μ-loop d₀ value₀ seen₀ mark₀ claim₀ standing₀ content₀ wct₀ i₀ d value seen mark claim standing content wct i = 17 - i
+
+array-write-owner : tie.Need-array-write-owner Inv-loop μ-loop
+array-write-owner c = search needs
+
+fresh-requires : tie.Need-fresh-requires Inv-loop μ-loop
+fresh-requires c κs = search needs
+
+loop-holds : tie.Need-loop-holds Inv-loop μ-loop
+unfolding state-after fresh
+loop-holds c =
+    let f = c .before .before .before .before .before .before .before .before .fresh .ensures in
+    (omega arith, f .1 .0, f .1 .1, f .0)
+
+command-requires : tie.Need-command-requires Inv-loop μ-loop
+command-requires c κs = search needs
+
+step-requires : tie.Need-step-requires Inv-loop μ-loop
+step-requires c κs =
+    let l = c .before .before .before .before .before .before .before .before .before .loop in
+    (l .inv .1, l .inv .2, known-any (l .d) (l .value) (l .seen) (l .mark) (l .claim) (l .standing) (l .content) (l .wct) (state-after (l .i) .tally) (subst Known (sym (l .inv .3)) (known-after (l .i) (c .before .before .before .before .before .before .before .before .loop-test .taken))) no-tally)
+
+print-requires : tie.Need-print-requires Inv-loop μ-loop
+print-requires c κs = search needs
+
+add-i : tie.Need-add-i Inv-loop μ-loop
+add-i c = omega (arith, c .before .before .before .before .before .before .before .before .before .before .before .loop-test .taken)
+
+loop-less : tie.Need-loop-less Inv-loop μ-loop
+loop-less c = omega (arith, c .before .before .before .before .before .before .before .before .before .before .before .loop-test .taken)
+
+loop-again : tie.Need-loop-again Inv-loop μ-loop
+loop-again c =
+    let l = c .before .before .before .before .before .before .before .before .before .before .before .before .loop in
+    let s = c .before .before .step in (
+      omega (arith, c .before .before .before .before .before .before .before .before .before .before .before .loop-test .taken),
+      s .ensures .1 .1,
+      s .ensures .1 .0,
+      onward (view (l .d) (l .value) (l .seen) (l .mark) (l .claim) (l .standing) (l .content) (l .wct)) _ (s .result .answer) (l .i) (command-of (c .before .before .before .before .before .before .before .before .before .before .command .result)) (λ tally. refl) (l .inv .3) (c .before .before .before .before .before .before .before .before .before .before .command .ensures) (s .ensures .0),
+    )
+
+returns : tie.Need-returns Inv-loop μ-loop
+returns c = search needs
+
+pub main-spec : {M : Type 1} → statement M
+main-spec =
+    tie.close
+    (tie.spec
+    Inv-loop
+    μ-loop
+    array-write-owner
+    fresh-requires
+    loop-holds
+    command-requires
+    step-requires
+    print-requires
+    add-i
+    loop-less
+    loop-again
+    returns)
