@@ -26,14 +26,14 @@ pub fn step(
     match c {
         Command::Begin(t) => saves::begin(d, t),
         Command::Read(t, k) => {
-            let a = saves::read(d, value, seen, mark, claim, standing, content, wct, t, k);
+            let a = copies::read(d, value, seen, mark, claim, standing, content, wct, t, k);
             Stepped {
                 answer: a,
                 control: d,
             }
         }
         Command::Write(t, k, v) => {
-            let a = saves::write(d, value, mark, claim, t, k, v);
+            let a = copies::write(d, value, mark, claim, t, k, v);
             Stepped {
                 answer: a,
                 control: d,

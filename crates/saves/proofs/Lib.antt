@@ -1,4 +1,3 @@
 pub mod Phases
-pub mod Copies
 pub mod Order
 pub mod Decisions

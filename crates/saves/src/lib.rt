@@ -1,32 +1,20 @@
-// The commands of a save: BEGIN, READ, WRITE, SUBMIT, DECIDE and GIVE UP. Each does what its rule says.
+// The commands that move a save on: BEGIN, SUBMIT, DECIDE and GIVE UP. Each does what its rule says.
 ghost use Prim.Native.Nat.{ℕ, _+_, _*_, _<_};
 ghost use mathlib.Core.Path.{_≡_};
 ghost use mathlib.Core.Bool.{_&&_, _||_, not};
 ghost use mathlib.Core.List.{List, []};
 ghost use lib.ListN.{getD, length};
-ghost use lib.Dec.{eqb, leb};
-ghost use Rattle.rules.specs.Bytes.{Begin, Read, Write, Submit, Decide, GiveUp};
+ghost use Rattle.rules.specs.Bytes.{Begin, Submit, Decide, GiveUp};
 ghost use Rattle.rules.specs.Table.{all};
 ghost use Rattle.rules.specs.State.{claims};
-ghost use Rattle.rules.specs.Steps.{at-front, x-on, has-taken, granted};
-ghost use Rattle.state.specs.View.{set?, claim-in, queue-in, view, no-tally, Steps};
+ghost use Rattle.rules.specs.Steps.{has-taken, granted};
+ghost use Rattle.state.specs.View.{claim-in, view, no-tally, Steps};
 ghost use Rattle.state.specs.Fill.{fill};
-ghost use Rattle.state.specs.Ready.{Shaped, Once, Ready};
-ghost use Rattle.queues.specs.Walk.{Walk};
+ghost use Rattle.state.specs.Ready.{Shaped, Ready};
 use state::Answer;
 use state::Control;
 use state::Session;
 use state::Stepped;
-
-// A save of phase p is in its first or second run.
-fn running(p: u8) -> bool
-    ensures { λ r. ⌜ r ≡ (eqb p 1 || eqb p 3) ⌝ }
-{
-    if p == 1 {
-        return true;
-    }
-    p == 3
-}
 
 // An unused save enters its first run.
 pub fn begin(mut d: Control, t: u8) -> Stepped
@@ -71,7 +59,7 @@ pub fn give_up(mut d: Control, t: u8) -> Stepped
     }
     let ti = t as usize;
     let p = d.phase[ti];
-    let run = running(p);
+    let run = state::running(p);
     if !run {
         return Stepped {
             answer: Answer::Refused(5),
@@ -83,142 +71,6 @@ pub fn give_up(mut d: Control, t: u8) -> Stepped
         answer: Answer::Accepted,
         control: d,
     }
-}
-
-// In the first run any sheet is open to READ, in the second one that is claimed.
-fn readable(p: u8, c: u8) -> bool
-    ensures { λ r. ⌜ r ≡ (eqb p 1 || set? c) ⌝ }
-{
-    if p == 1 {
-        return true;
-    }
-    c != 0
-}
-
-// In the first run any sheet is open to WRITE, in the second one that is X in the claim.
-fn writable(p: u8, c: u8) -> bool
-    ensures { λ r. ⌜ r ≡ (eqb p 1 || leb 2 c) ⌝ }
-{
-    if p == 1 {
-        return true;
-    }
-    2 <= c
-}
-
-// A save of phase p is in its first run, and finds an X at the front of sheet k's queue.
-fn blocked(
-    order: &[u8; Session::SAVES],
-    standing: &[u8; Session::STANDING],
-    claim: &[u8; Session::COPIES],
-    n: usize,
-    k: usize,
-    upto: usize,
-    p: u8,
-) -> bool
-    requires { ⌜ Walk (now order) n k upto ⌝ }
-    ensures { λ r. ⌜ ((place : ℕ → ℕ) → Once (now (order .entry)) place upto → r ≡ (not (eqb p 3) && at-front (x-on (claim-in (now (claim .entry))) k) (queue-in (now (order .entry)) place (now (standing .entry)) (now (claim .entry)) n k upto))) ⌝ }
-{
-    if p == 3 {
-        return false;
-    }
-    queues::front_x(order, standing, claim, n, k, upto)
-}
-
-// A save is answered from its own copy of the sheet, which is made first where it has none.
-pub fn read(
-    d: Control,
-    value: &mut [u32; Session::COPIES],
-    seen: &mut [u32; Session::COPIES],
-    mark: &mut [u8; Session::COPIES],
-    claim: &[u8; Session::COPIES],
-    standing: &[u8; Session::STANDING],
-    content: &[u32; Session::SHEETS],
-    wct: &[u32; Session::SHEETS],
-    t: u8,
-    k: u8,
-) -> Answer
-    requires { ⌜ Ready d × (length (now value) ≡ 2048) × (length (now seen) ≡ 2048) × (length (now mark) ≡ 2048) ⌝ }
-    ensures { λ r. ⌜ Steps (view d (now (value .entry)) (now (seen .entry)) (now (mark .entry)) (now (claim .entry)) (now (standing .entry)) (now (content .entry)) (now (wct .entry))) (Read t k) (view d (now (value .exit)) (now (seen .exit)) (now (mark .exit)) (now (claim .entry)) (now (standing .entry)) (now (content .entry)) (now (wct .entry))) r ⌝ }
-    ensures kept { λ _. ⌜ (length (now (value .exit)) ≡ 2048) × (length (now (seen .exit)) ≡ 2048) × (length (now (mark .exit)) ≡ 2048) ⌝ }
-{
-    if 32 <= t {
-        return Answer::Refused(4);
-    }
-    if d.sheets <= k {
-        return Answer::Refused(4);
-    }
-    let ti = t as usize;
-    let ki = k as usize;
-    let i = ti * Session::SHEETS + ki;
-    let p = d.phase[ti];
-    let run = running(p);
-    if !run {
-        return Answer::Refused(5);
-    }
-    let c = claim[i];
-    let open = readable(p, c);
-    if !open {
-        return Answer::Refused(8);
-    }
-    let m = mark[i];
-    if m != 0 {
-        let v = value[i];
-        return Answer::Content(v);
-    }
-    let n = d.owner[ki] as usize;
-    let upto = d.taken[n] as usize;
-    let b = blocked(&d.order, standing, claim, n, ki, upto, p);
-    if b {
-        return Answer::Refused(6);
-    }
-    let x = content[ki];
-    let y = wct[ki];
-    value[i] = x;
-    seen[i] = y;
-    mark[i] = 1;
-    Answer::Content(x)
-}
-
-// The save's own copy of the sheet is changed.
-pub fn write(
-    d: Control,
-    value: &mut [u32; Session::COPIES],
-    mark: &mut [u8; Session::COPIES],
-    claim: &[u8; Session::COPIES],
-    t: u8,
-    k: u8,
-    v: u32,
-) -> Answer
-    requires { ⌜ Ready d × (length (now value) ≡ 2048) × (length (now mark) ≡ 2048) ⌝ }
-    ensures { λ r. ⌜ ((seen standing content wct : List ℕ) → Steps (view d (now (value .entry)) seen (now (mark .entry)) (now (claim .entry)) standing content wct) (Write t k v) (view d (now (value .exit)) seen (now (mark .exit)) (now (claim .entry)) standing content wct) r) ⌝ }
-    ensures kept { λ _. ⌜ (length (now (value .exit)) ≡ 2048) × (length (now (mark .exit)) ≡ 2048) ⌝ }
-{
-    if 32 <= t {
-        return Answer::Refused(4);
-    }
-    if d.sheets <= k {
-        return Answer::Refused(4);
-    }
-    let ti = t as usize;
-    let ki = k as usize;
-    let i = ti * Session::SHEETS + ki;
-    let p = d.phase[ti];
-    let run = running(p);
-    if !run {
-        return Answer::Refused(5);
-    }
-    let c = claim[i];
-    let open = writable(p, c);
-    if !open {
-        return Answer::Refused(8);
-    }
-    let m = mark[i];
-    if m == 0 {
-        return Answer::Refused(7);
-    }
-    value[i] = v;
-    mark[i] = 2;
-    Answer::Accepted
 }
 
 // Save t's marks become its claim: a copy is an S, a written one an X.

@@ -8,11 +8,12 @@ ghost use lib.ListN.{getD};
 ghost use lib.Dec.{eqb, ltb};
 ghost use Rattle.rules.specs.Table.{all, any};
 ghost use Rattle.rules.specs.State.{claims};
-ghost use Rattle.rules.specs.Steps.{holds, x-on, granted, has-taken, finds-invalid, has-entry};
+ghost use Rattle.rules.specs.Steps.{granted, has-taken, finds-invalid, has-entry};
 ghost use Rattle.state.specs.Places.{at};
-ghost use Rattle.state.specs.View.{set?, flat, claim-in, queue-in, view, no-tally};
+ghost use Rattle.state.specs.View.{set?, claim-in, view, no-tally};
 ghost use Rattle.state.specs.Ready.{Once, Ready};
 ghost use Rattle.queues.specs.Walk.{Walk};
+ghost use Rattle.sheets.specs.Fails.{fails-in};
 use state::Control;
 use state::Session;
 
@@ -30,7 +31,7 @@ fn fails_at(
     k: usize,
 ) -> bool
     requires { ⌜ Walk (now order) n k upto × (t < 32) ⌝ }
-    ensures { λ r. ⌜ ((place : ℕ → ℕ) → Once (now (order .entry)) place upto → r ≡ (eqb o n && (claims (claim-in (now (claim .entry)) t k) && (holds (x-on (claim-in (now (claim .entry))) k) (queue-in (now (order .entry)) place (now (standing .entry)) (now (claim .entry)) n k upto) || ltb (flat (now (seen .entry)) t k) (getD (now (wct .entry)) k 0))))) ⌝ }
+    ensures { λ r. ⌜ ((place : ℕ → ℕ) → Once (now (order .entry)) place upto → r ≡ (eqb o n && fails-in (now (order .entry)) place (now (seen .entry)) (now (claim .entry)) (now (standing .entry)) (now (wct .entry)) t k n upto)) ⌝ }
 {
     if o != n {
         return false;

@@ -1,5 +1,7 @@
 // A session's state as arrays. What is small goes by value, as `Control`; the tables are lent and changed in place.
 ghost use mathlib.Core.Path.{_≡_};
+ghost use mathlib.Core.Bool.{_||_};
+ghost use lib.Dec.{eqb};
 ghost use Rattle.rules.specs.State.{fresh};
 ghost use Rattle.state.specs.View.{shown, header-of, no-tally};
 ghost use Rattle.state.specs.Ready.{Shaped, Sized};
@@ -94,4 +96,14 @@ pub enum Answer {
 pub struct Stepped {
     pub answer: Answer,
     pub control: Control,
+}
+
+// A save of phase p is in its first or second run.
+pub fn running(p: u8) -> bool
+    ensures { λ r. ⌜ r ≡ (eqb p 1 || eqb p 3) ⌝ }
+{
+    if p == 1 {
+        return true;
+    }
+    p == 3
 }

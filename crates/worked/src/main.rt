@@ -73,7 +73,7 @@ fn print(a: Answer) {
 }
 
 // Sheet 0 stands at node 0, sheet 1 at node 1.
-fn main() {
+fn run() {
     let mut owner = [0u8; 64];
     owner[1] = 1;
     let s = Session::fresh(2, 2, owner);
@@ -105,4 +105,8 @@ fn main() {
         d = e;
         i += 1;
     }
+}
+
+fn main() {
+    run();
 }

@@ -2,17 +2,15 @@
 use native.Mathlib.Omega.{arith}
 use Prim.Native.Nat.{ℕ, _-_, _≤_}
 use mathlib.Core.Path.{_≡_, refl, sym, _∙_}
-use mathlib.Core.Bool.{Bool, _&&_, _||_}
+use mathlib.Core.Bool.{Bool, _&&_}
 use mathlib.Core.List.{List}
 use lib.ListN.{getD}
-use lib.Dec.{eqb, ltb}
+use lib.Dec.{eqb}
 use Rattle.rules.specs.Table.{any}
-use Rattle.rules.specs.State.{claims}
-use Rattle.rules.specs.Steps.{holds, x-on}
 use Rattle.state.specs.declared.Control.{Control}
-use Rattle.state.specs.View.{flat, claim-in, queue-in}
 use Rattle.state.proofs.Tables.{any-here, any-down, any-end}
 use Rattle.queues.proofs.Taken.{walk-taken, once-taken}
+use Rattle.sheets.specs.Fails.{fails-in}
 use Rattle.sheets.proofs.Sheets.{at-owner}
 use borrow.Author.Needs.{needs}
 use Rattle.sheets.proofs.finds_invalid.Statement.{statement}
@@ -20,8 +18,7 @@ use Rattle.sheets.proofs.finds_invalid.Tie as tie
 
 -- what makes t fail at sheet k, whose queue is that of node m
 abbrev fails : Control → (seen claim standing wct : List ℕ) → (t k m : ℕ) → Bool
-fails d seen claim standing wct t k m =
-    claims (claim-in claim t k) && (holds (x-on (claim-in claim) k) (queue-in (d .order) (λ u. getD (d .place) u 0) standing claim m k (getD (d .taken) m 0)) || ltb (flat seen t k) (getD wct k 0))
+fails d seen claim standing wct t k m = fails-in (d .order) (λ u. getD (d .place) u 0) seen claim standing wct t k m (getD (d .taken) m 0)
 
 abbrev test : Control → (seen claim standing wct : List ℕ) → (n t k : ℕ) → Bool
 test d seen claim standing wct n t k = eqb (getD (d .owner) k 0) n && fails d seen claim standing wct t k (getD (d .owner) k 0)

@@ -10,8 +10,8 @@ use Rattle.state.proofs.Ready.{known-any}
 use Rattle.worked.specs.Worked.{state-after}
 use Rattle.worked.proofs.Certain.{known-after, onward}
 use borrow.Author.Needs.{needs}
-use Rattle.worked.proofs.main.Statement.{statement}
-use Rattle.worked.proofs.main.Tie as tie
+use Rattle.worked.proofs.run.Statement.{statement}
+use Rattle.worked.proofs.run.Tie as tie
 
 abbrev Inv-loop : tie.InvT-loop
 Inv-loop d₀ value₀ seen₀ mark₀ claim₀ standing₀ content₀ wct₀ i₀ d value seen mark claim standing content wct i = (i ≤ 17) × Shaped d × Sized value seen mark claim standing content wct × (view d value seen mark claim standing content wct (state-after i .tally) ≡ state-after i)
@@ -61,8 +61,8 @@ loop-again c =
 returns : tie.Need-returns Inv-loop μ-loop
 returns c = search needs
 
-pub main-spec : {M : Type 1} → statement M
-main-spec =
+pub run-spec : {M : Type 1} → statement M
+run-spec =
     tie.close
     (tie.spec
     Inv-loop

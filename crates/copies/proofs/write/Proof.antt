@@ -2,10 +2,10 @@
 use mathlib.Core.Path.{sym, _∙_}
 use borrow.Author.Tests.{lt-ltb, le-ltb, not-true, not-false}
 use Rattle.state.proofs.Steps.{refused}
-use Rattle.saves.proofs.Copies.{write-5, write-8, write-7, write-steps}
+use Rattle.copies.proofs.Tables.{write-5, write-8, write-7, write-steps}
 use borrow.Author.Needs.{needs}
-use Rattle.saves.proofs.write.Statement.{statement}
-use Rattle.saves.proofs.write.Tie as tie
+use Rattle.copies.proofs.write.Statement.{statement}
+use Rattle.copies.proofs.write.Tie as tie
 
 returns : tie.Need-returns
 returns c = ((λ seen standing content wct. refused (λ tally. simp (le-ltb _ _ (c .if1 .taken)))), search needs)

@@ -1,7 +1,7 @@
 -- The two tests in turn.
 use borrow.Author.Tests.{eq-eqb, ne-eqb}
-use Rattle.saves.proofs.readable.Statement.{statement}
-use Rattle.saves.proofs.readable.Tie as tie
+use Rattle.copies.proofs.readable.Statement.{statement}
+use Rattle.copies.proofs.readable.Tie as tie
 
 returns : tie.Need-returns
 returns c = simp (eq-eqb _ _ (c .if1 .taken))

@@ -1,8 +1,8 @@
 -- The two tests in turn.
 use borrow.Author.Tests.{eq-eqb, ne-eqb}
 use borrow.Author.Needs.{needs}
-use Rattle.saves.proofs.blocked.Statement.{statement}
-use Rattle.saves.proofs.blocked.Tie as tie
+use Rattle.copies.proofs.blocked.Statement.{statement}
+use Rattle.copies.proofs.blocked.Tie as tie
 
 returns : tie.Need-returns
 returns c = λ place once. simp (eq-eqb _ _ (c .if1 .taken))

@@ -5,10 +5,10 @@ use lib.ListN.{getD, length-set}
 use borrow.Author.Tests.{lt-ltb, le-ltb, not-true, not-false}
 use Rattle.state.proofs.Steps.{refused}
 use Rattle.queues.proofs.Taken.{walk-taken, once-taken}
-use Rattle.saves.proofs.Copies.{read-5, read-8, read-own, read-6, read-new}
+use Rattle.copies.proofs.Tables.{read-5, read-8, read-own, read-6, read-new}
 use borrow.Author.Needs.{needs}
-use Rattle.saves.proofs.read.Statement.{statement}
-use Rattle.saves.proofs.read.Tie as tie
+use Rattle.copies.proofs.read.Statement.{statement}
+use Rattle.copies.proofs.read.Tie as tie
 
 returns : tie.Need-returns
 returns c = (refused (λ tally. simp (le-ltb _ _ (c .if1 .taken))), search needs)
