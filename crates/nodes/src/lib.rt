@@ -44,7 +44,18 @@ pub fn take(
     let pi = p as usize;
     let t = order[pi];
     let ti = t as usize;
-    let b = sheets::finds_invalid(sheets, owner, order, taken, seen, claim, standing, wct, n, t);
+    let b = sheets::finds_invalid(
+        sheets,
+        owner,
+        order,
+        taken,
+        seen,
+        claim,
+        standing,
+        wct,
+        n,
+        t,
+    );
     standing[ni * Session::SAVES + ti] = 1;
     taken[ni] = p + 1;
     if b {
