@@ -1,5 +1,5 @@
 -- READ and WRITE: what they store is their rules' effect.
-use Prim.Native.Nat.{ℕ, _+_, _*_, _<_}
+use Prim.Native.Nat.{ℕ, _+_, _*_, _≤_, _<_}
 use mathlib.Core.Path.{_≡_, refl, sym, _∙_}
 use mathlib.Core.Bool.{Bool, true, false, not, _&&_, _||_, or-true}
 use mathlib.Core.Logic.{_≢_}
@@ -14,7 +14,6 @@ use Rattle.rules.specs.Steps.{at-front, x-on, read-mark, read-copy}
 use Rattle.state.specs.declared.Control.{Control}
 use Rattle.state.specs.declared.Answer.the-variants.{Content, Accepted, Refused}
 use Rattle.state.specs.View.{as-mark, set?, flat, claim-in, queue-in, view, Steps}
-use Rattle.state.specs.Ready.{Ready}
 use Rattle.state.proofs.Tables.{upd2-by}
 use Rattle.state.proofs.Codes.{first-code, second-code, claims-code, is-x-code, has-copy-code}
 use Rattle.state.proofs.Stores.{flat-in, flat-same, flat-other}
@@ -31,9 +30,9 @@ kept-copy absent own other e = let z : _≡_ {A = Bool} true false = sym e in cc
 kept-copy copied own other e = refl
 kept-copy written own other e = refl
 
-module _ (d : Control) (value seen mark claim standing content wct : List ℕ) (t k : ℕ) (t32 : t < 32) (ks : k < d .sheets) (ready : Ready d) where
+module _ (d : Control) (value seen mark claim standing content wct : List ℕ) (t k : ℕ) (t32 : t < 32) (ks : k < d .sheets) (s64 : d .sheets ≤ 64) where
   k64 : k < 64
-  k64 = let z = ready .sheets64 in omega arith
+  k64 = omega arith
 
   abbrev S : Tally → State
   S = view d value seen mark claim standing content wct

@@ -1,5 +1,5 @@
 // The commands on a save's own copies: READ and WRITE. Each does what its rule says.
-ghost use Prim.Native.Nat.{ℕ, _+_, _*_, _<_};
+ghost use Prim.Native.Nat.{ℕ, _+_, _*_, _≤_, _<_};
 ghost use mathlib.Core.Path.{_≡_};
 ghost use mathlib.Core.Bool.{_&&_, _||_, not};
 ghost use mathlib.Core.List.{List};
@@ -7,11 +7,10 @@ ghost use lib.ListN.{length};
 ghost use lib.Dec.{eqb, leb};
 ghost use Rattle.rules.specs.Bytes.{Read, Write};
 ghost use Rattle.rules.specs.Steps.{at-front, x-on};
-ghost use Rattle.state.specs.View.{set?, claim-in, queue-in, view, Steps};
-ghost use Rattle.state.specs.Ready.{Once, Ready};
+ghost use Rattle.state.specs.View.{set?, claim-in, queue-in, control, view, Steps};
+ghost use Rattle.state.specs.Ready.{Once, Onces, Queued};
 ghost use Rattle.queues.specs.Walk.{Walk};
 use state::Answer;
-use state::Control;
 use state::Session;
 
 // In the first run any sheet is open to READ, in the second one that is claimed.
@@ -55,7 +54,11 @@ fn blocked(
 
 // A save is answered from its own copy of the sheet, which is made first where it has none.
 pub fn read(
-    d: Control,
+    sheets: u8,
+    owner: &[u8; Session::SHEETS],
+    phase: &[u8; Session::SAVES],
+    order: &[u8; Session::SAVES],
+    taken: &[u8; Session::NODES],
     value: &mut [u32; Session::COPIES],
     seen: &mut [u32; Session::COPIES],
     mark: &mut [u8; Session::COPIES],
@@ -66,20 +69,20 @@ pub fn read(
     t: u8,
     k: u8,
 ) -> Answer
-    requires { ⌜ Ready d × (length (now value) ≡ 2048) × (length (now seen) ≡ 2048) × (length (now mark) ≡ 2048) ⌝ }
-    ensures { λ r. ⌜ Steps (view d (now (value .entry)) (now (seen .entry)) (now (mark .entry)) (now (claim .entry)) (now (standing .entry)) (now (content .entry)) (now (wct .entry))) (Read t k) (view d (now (value .exit)) (now (seen .exit)) (now (mark .exit)) (now (claim .entry)) (now (standing .entry)) (now (content .entry)) (now (wct .entry))) r ⌝ }
+    requires { ⌜ Queued sheets (now owner) (now order) (now taken) × (length (now value) ≡ 2048) × (length (now seen) ≡ 2048) × (length (now mark) ≡ 2048) ⌝ }
+    ensures { λ r. ⌜ ((nodes placed : ℕ) (failed runs place : List ℕ) → Onces (now (order .entry)) place (now (taken .entry)) → Steps (view (control nodes sheets placed (now (owner .entry)) (now (phase .entry)) failed runs (now (order .entry)) place (now (taken .entry))) (now (value .entry)) (now (seen .entry)) (now (mark .entry)) (now (claim .entry)) (now (standing .entry)) (now (content .entry)) (now (wct .entry))) (Read t k) (view (control nodes sheets placed (now (owner .entry)) (now (phase .entry)) failed runs (now (order .entry)) place (now (taken .entry))) (now (value .exit)) (now (seen .exit)) (now (mark .exit)) (now (claim .entry)) (now (standing .entry)) (now (content .entry)) (now (wct .entry))) r) ⌝ }
     ensures kept { λ _. ⌜ (length (now (value .exit)) ≡ 2048) × (length (now (seen .exit)) ≡ 2048) × (length (now (mark .exit)) ≡ 2048) ⌝ }
 {
     if 32 <= t {
         return Answer::Refused(4);
     }
-    if d.sheets <= k {
+    if sheets <= k {
         return Answer::Refused(4);
     }
     let ti = t as usize;
     let ki = k as usize;
     let i = ti * Session::SHEETS + ki;
-    let p = d.phase[ti];
+    let p = phase[ti];
     let run = state::running(p);
     if !run {
         return Answer::Refused(5);
@@ -94,9 +97,9 @@ pub fn read(
         let v = value[i];
         return Answer::Content(v);
     }
-    let n = d.owner[ki] as usize;
-    let upto = d.taken[n] as usize;
-    let b = blocked(&d.order, standing, claim, n, ki, upto, p);
+    let n = owner[ki] as usize;
+    let upto = taken[n] as usize;
+    let b = blocked(order, standing, claim, n, ki, upto, p);
     if b {
         return Answer::Refused(6);
     }
@@ -110,7 +113,8 @@ pub fn read(
 
 // The save's own copy of the sheet is changed.
 pub fn write(
-    d: Control,
+    sheets: u8,
+    phase: &[u8; Session::SAVES],
     value: &mut [u32; Session::COPIES],
     mark: &mut [u8; Session::COPIES],
     claim: &[u8; Session::COPIES],
@@ -118,20 +122,20 @@ pub fn write(
     k: u8,
     v: u32,
 ) -> Answer
-    requires { ⌜ Ready d × (length (now value) ≡ 2048) × (length (now mark) ≡ 2048) ⌝ }
-    ensures { λ r. ⌜ ((seen standing content wct : List ℕ) → Steps (view d (now (value .entry)) seen (now (mark .entry)) (now (claim .entry)) standing content wct) (Write t k v) (view d (now (value .exit)) seen (now (mark .exit)) (now (claim .entry)) standing content wct) r) ⌝ }
+    requires { ⌜ (sheets ≤ 64) × (length (now value) ≡ 2048) × (length (now mark) ≡ 2048) ⌝ }
+    ensures { λ r. ⌜ ((nodes placed : ℕ) (owner failed runs order place taken seen standing content wct : List ℕ) → Steps (view (control nodes sheets placed owner (now (phase .entry)) failed runs order place taken) (now (value .entry)) seen (now (mark .entry)) (now (claim .entry)) standing content wct) (Write t k v) (view (control nodes sheets placed owner (now (phase .entry)) failed runs order place taken) (now (value .exit)) seen (now (mark .exit)) (now (claim .entry)) standing content wct) r) ⌝ }
     ensures kept { λ _. ⌜ (length (now (value .exit)) ≡ 2048) × (length (now (mark .exit)) ≡ 2048) ⌝ }
 {
     if 32 <= t {
         return Answer::Refused(4);
     }
-    if d.sheets <= k {
+    if sheets <= k {
         return Answer::Refused(4);
     }
     let ti = t as usize;
     let ki = k as usize;
     let i = ti * Session::SHEETS + ki;
-    let p = d.phase[ti];
+    let p = phase[ti];
     let run = state::running(p);
     if !run {
         return Answer::Refused(5);

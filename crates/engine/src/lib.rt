@@ -1,15 +1,23 @@
 // One step of a session.
 ghost use Rattle.wire.specs.Meaning.{command-of};
-ghost use Rattle.state.specs.View.{view, no-tally, Steps};
+ghost use Rattle.state.specs.View.{control, view, no-tally, Steps};
 ghost use Rattle.state.specs.Ready.{Shaped, Sized, Known};
-use state::Control;
 use state::Session;
 use state::Stepped;
 use wire::Command;
 
 // State and answer after a command are those of the rules.
 pub fn step(
-    d: Control,
+    nodes: u8,
+    sheets: u8,
+    placed: u8,
+    owner: &[u8; Session::SHEETS],
+    phase: &mut [u8; Session::SAVES],
+    failed: &mut [u8; Session::SAVES],
+    runs: &mut [u8; Session::SAVES],
+    order: &mut [u8; Session::SAVES],
+    place: &mut [u8; Session::SAVES],
+    taken: &mut [u8; Session::NODES],
     value: &mut [u32; Session::COPIES],
     seen: &mut [u32; Session::COPIES],
     mark: &mut [u8; Session::COPIES],
@@ -19,36 +27,117 @@ pub fn step(
     wct: &mut [u32; Session::SHEETS],
     c: Command,
 ) -> Stepped
-    requires { ⌜ Shaped d × Sized (now value) (now seen) (now mark) (now claim) (now standing) (now content) (now wct) × Known (view d (now value) (now seen) (now mark) (now claim) (now standing) (now content) (now wct) no-tally) ⌝ }
-    ensures { λ r. ⌜ Steps (view d (now (value .entry)) (now (seen .entry)) (now (mark .entry)) (now (claim .entry)) (now (standing .entry)) (now (content .entry)) (now (wct .entry))) (command-of c) (view (r .control) (now (value .exit)) (now (seen .exit)) (now (mark .exit)) (now (claim .exit)) (now (standing .exit)) (now (content .exit)) (now (wct .exit))) (r .answer) ⌝ }
-    ensures kept { λ r. ⌜ Sized (now (value .exit)) (now (seen .exit)) (now (mark .exit)) (now (claim .exit)) (now (standing .exit)) (now (content .exit)) (now (wct .exit)) × Shaped (r .control) ⌝ }
+    requires { ⌜ Shaped (control nodes sheets placed (now owner) (now phase) (now failed) (now runs) (now order) (now place) (now taken)) × Sized (now value) (now seen) (now mark) (now claim) (now standing) (now content) (now wct) × Known (view (control nodes sheets placed (now owner) (now phase) (now failed) (now runs) (now order) (now place) (now taken)) (now value) (now seen) (now mark) (now claim) (now standing) (now content) (now wct) no-tally) ⌝ }
+    ensures { λ r. ⌜ Steps (view (control nodes sheets placed (now (owner .entry)) (now (phase .entry)) (now (failed .entry)) (now (runs .entry)) (now (order .entry)) (now (place .entry)) (now (taken .entry))) (now (value .entry)) (now (seen .entry)) (now (mark .entry)) (now (claim .entry)) (now (standing .entry)) (now (content .entry)) (now (wct .entry))) (command-of c) (view (control nodes sheets (r .placed) (now (owner .entry)) (now (phase .exit)) (now (failed .exit)) (now (runs .exit)) (now (order .exit)) (now (place .exit)) (now (taken .exit))) (now (value .exit)) (now (seen .exit)) (now (mark .exit)) (now (claim .exit)) (now (standing .exit)) (now (content .exit)) (now (wct .exit))) (r .answer) ⌝ }
+    ensures kept { λ r. ⌜ Sized (now (value .exit)) (now (seen .exit)) (now (mark .exit)) (now (claim .exit)) (now (standing .exit)) (now (content .exit)) (now (wct .exit)) × Shaped (control nodes sheets (r .placed) (now (owner .entry)) (now (phase .exit)) (now (failed .exit)) (now (runs .exit)) (now (order .exit)) (now (place .exit)) (now (taken .exit))) ⌝ }
 {
     match c {
-        Command::Begin(t) => saves::begin(d, t),
-        Command::Read(t, k) => {
-            let a = copies::read(d, value, seen, mark, claim, standing, content, wct, t, k);
+        Command::Begin(t) => {
+            let a = saves::begin(phase, runs, t);
             Stepped {
                 answer: a,
-                control: d,
+                placed: placed,
+            }
+        }
+        Command::Read(t, k) => {
+            let a = copies::read(
+                sheets,
+                owner,
+                phase,
+                order,
+                taken,
+                value,
+                seen,
+                mark,
+                claim,
+                standing,
+                content,
+                wct,
+                t,
+                k,
+            );
+            Stepped {
+                answer: a,
+                placed: placed,
             }
         }
         Command::Write(t, k, v) => {
-            let a = copies::write(d, value, mark, claim, t, k, v);
+            let a = copies::write(sheets, phase, value, mark, claim, t, k, v);
             Stepped {
                 answer: a,
-                control: d,
+                placed: placed,
             }
         }
-        Command::Submit(t) => saves::submit(d, mark, claim, t),
-        Command::Take(n) => nodes::take(d, seen, claim, standing, wct, n),
-        Command::Decide(t) => saves::decide(d, mark, claim, standing, t),
+        Command::Submit(t) => saves::submit(placed, phase, order, place, mark, claim, t),
+        Command::Take(n) => {
+            let a = nodes::take(
+                nodes,
+                sheets,
+                placed,
+                owner,
+                failed,
+                order,
+                taken,
+                seen,
+                claim,
+                standing,
+                wct,
+                n,
+            );
+            Stepped {
+                answer: a,
+                placed: placed,
+            }
+        }
+        Command::Decide(t) => {
+            let a = saves::decide(
+                sheets,
+                owner,
+                phase,
+                failed,
+                runs,
+                order,
+                place,
+                taken,
+                mark,
+                claim,
+                standing,
+                t,
+            );
+            Stepped {
+                answer: a,
+                placed: placed,
+            }
+        }
         Command::Apply(n, t) => {
-            let a = nodes::apply(d, value, mark, claim, standing, content, wct, n, t);
+            let a = nodes::apply(
+                nodes,
+                sheets,
+                owner,
+                phase,
+                order,
+                place,
+                taken,
+                value,
+                mark,
+                claim,
+                standing,
+                content,
+                wct,
+                n,
+                t,
+            );
             Stepped {
                 answer: a,
-                control: d,
+                placed: placed,
             }
         }
-        Command::GiveUp(t) => saves::give_up(d, t),
+        Command::GiveUp(t) => {
+            let a = saves::give_up(phase, t);
+            Stepped {
+                answer: a,
+                placed: placed,
+            }
+        }
     }
 }

@@ -5,7 +5,7 @@ use mathlib.Core.Bool.{Bool, true, false, _&&_, _||_, cond, or-true, or-false}
 use mathlib.Core.List.{List, [], _∷_, _++_}
 use native.Mathlib.Omega.{arith}
 use native.Mathlib.Numerals.{add-one}
-use lib.ListN.{length, getD, set, take, length-set}
+use lib.ListN.{length, getD, set, take}
 use lib.Seq.{getD-set-same, getD-set-other, getD-take}
 use lib.Dec.{eqb}
 use borrow.Author.Tests.{eq-eqb, ne-eqb, lt-ltb, le-ltb}
@@ -20,7 +20,7 @@ use Rattle.state.specs.declared.Verdict.the-variants.{Valid, Invalid}
 use Rattle.state.specs.declared.Answer.the-variants.{Took, Refused}
 use Rattle.state.specs.Places.{at, by}
 use Rattle.state.specs.View.{set?, claim-in, entered, queue-in, view, no-tally, verdict-of, Steps}
-use Rattle.state.specs.Ready.{Shaped, Ready}
+use Rattle.state.specs.Ready.{Ready}
 use Rattle.state.proofs.Tables.{same?, upd-by}
 use Rattle.state.proofs.Stores.{view-set}
 use Rattle.state.proofs.Places.{entries-on, entries-cong, order-length}
@@ -126,15 +126,3 @@ module _ (d : Control) (ready : Ready d) where
     pub take-valid : (value seen mark content wct : List ℕ) → n < d .nodes → false ≡ finds-invalid (view d [] seen [] claim standing [] wct no-tally) n t
         → Steps (view d value seen mark claim standing content wct) (Take n) (view (took d (d .failed) n) value seen mark claim standing′ content wct) (Took t Valid)
     take-valid value seen mark content wct ln e = take-steps value seen mark content wct (d .failed) false Valid ln e refl (failed-keep (d .failed) t)
-
-pub took-shaped : (d : Control) (failed : List ℕ) (n : ℕ) → Shaped d → length failed ≡ 32 → Shaped (took d failed n)
-took-shaped d failed n z e = record {
-  owner = z .owner;
-  phase = z .phase;
-  failed = e;
-  runs = z .runs;
-  order = z .order;
-  place = z .place;
-  taken = rw length-set (z .taken);
-  fits = z .fits;
-}

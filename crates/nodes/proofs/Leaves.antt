@@ -19,7 +19,7 @@ use Rattle.state.specs.declared.Answer.the-variants.{Accepted, Refused}
 use Rattle.state.specs.Places.{at}
 use Rattle.state.specs.View.{set?, flat, claim-in, entered, queue-in, view, no-tally, Steps}
 use Rattle.state.specs.Fill.{fill}
-use Rattle.state.specs.Ready.{Ready}
+use Rattle.state.specs.Ready.{Small}
 use Rattle.state.proofs.Tables.{bool, same?}
 use Rattle.state.proofs.Codes.{committed-code, over-code, written-code}
 use Rattle.state.proofs.Stores.{flat-in, flat-past, fill-in, fill-out}
@@ -27,7 +27,7 @@ use Rattle.state.proofs.Places.{entries-cong, entries-without}
 use Rattle.state.proofs.Steps.{refused, accepted, same-state}
 use Rattle.nodes.specs.Carry.{gets, contents, wcts}
 
-module _ (d : Control) (value seen mark claim standing content wct : List ℕ) (n t : ℕ) (ready : Ready d) (t32 : t < 32) (ls : length standing ≡ 256) (n8 : n < 8) where
+module _ (d : Control) (value seen mark claim standing content wct : List ℕ) (n t : ℕ) (small : (m : ℕ) → Small (d .order) (getD (d .taken) m 0)) (t32 : t < 32) (ls : length standing ≡ 256) (n8 : n < 8) where
   abbrev place : ℕ → ℕ
   place u = getD (d .place) u 0
 
@@ -38,9 +38,6 @@ module _ (d : Control) (value seen mark claim standing content wct : List ℕ) (
   Leaves k m =
       queue-in (d .order) place standing′ claim m k (getD (d .taken) m 0)
       ≡ cond (eqb m n) (without t (queue-in (d .order) place standing claim m k (getD (d .taken) m 0))) (queue-in (d .order) place standing claim m k (getD (d .taken) m 0))
-
-  small : (m q : ℕ) → q < getD (d .taken) m 0 → at (d .order) q < 32
-  small m q l = let y = ready .takens m in ready .small q (omega arith)
 
   gone : (k u : ℕ) → u < 32 → entered standing′ claim n k u ≡ (entered standing claim n k u && not (eqb u t))
   unfolding entered
@@ -64,7 +61,7 @@ module _ (d : Control) (value seen mark claim standing content wct : List ℕ) (
       (λ q l. stays k m (at (d .order) q) (small m q l) z)))
 
   -- the rule's test at sheet k, in the row and past it
-  gets-in : (k : ℕ) → k < 64 → receives (view d value seen mark claim standing content wct no-tally) n t k ≡ gets d mark n t k
+  gets-in : (k : ℕ) → k < 64 → receives (view d value seen mark claim standing content wct no-tally) n t k ≡ gets (d .owner) (d .phase) mark n t k
   gets-in k h = rw (flat-in mark t k h, committed-code (getD (d .phase) t 0), written-code (getD mark (t * 64 + k) 0))
 
   gets-past : (k : ℕ) → 64 ≤ k → receives (view d value seen mark claim standing content wct no-tally) n t k ≡ false
@@ -73,12 +70,12 @@ module _ (d : Control) (value seen mark claim standing content wct : List ℕ) (
 
   -- a table that receives x at the sheets that get something
   got : (l : List ℕ) (x : ℕ → ℕ) → length l ≡ 64 → (k : ℕ)
-      → getD (fill (λ j. cond (gets d mark n t j) (x j) (getD l j 0)) 0 64 l) k 0 ≡ cond (receives (view d value seen mark claim standing content wct no-tally) n t k) (x k) (getD l k 0)
+      → getD (fill (λ j. cond (gets (d .owner) (d .phase) mark n t j) (x j) (getD l j 0)) 0 64 l) k 0 ≡ cond (receives (view d value seen mark claim standing content wct no-tally) n t k) (x k) (getD l k 0)
   got l x ll k =
       bool (ltb k 64)
-      (λ b. let i = fill-in (λ j. cond (gets d mark n t j) (x j) (getD l j 0)) 0 64 l k (ltb-true k 64 b) (rw ll (omega arith)) in
+      (λ b. let i = fill-in (λ j. cond (gets (d .owner) (d .phase) mark n t j) (x j) (getD l j 0)) 0 64 l k (ltb-true k 64 b) (rw ll (omega arith)) in
       rw (gets-in k (ltb-true k 64 b)) (rw (zero-add k) at i))
-      (λ b. rw (gets-past k (ltb-false k 64 b)) (fill-out (λ j. cond (gets d mark n t j) (x j) (getD l j 0)) 0 64 l k (λ j h e. let z = ltb-false k 64 b in omega arith)))
+      (λ b. rw (gets-past k (ltb-false k 64 b)) (fill-out (λ j. cond (gets (d .owner) (d .phase) mark n t j) (x j) (getD l j 0)) 0 64 l k (λ j h e. let z = ltb-false k 64 b in omega arith)))
 
   -- both tables at once: the sheet is stored to, or stays
   stored : (b : Bool) (c w v : ℕ) {c′ w′ : ℕ} → c′ ≡ cond b v c → w′ ≡ cond b (w + 1) w
@@ -95,7 +92,7 @@ module _ (d : Control) (value seen mark claim standing content wct : List ℕ) (
 
   pub apply-steps : n < d .nodes → 4 ≤ getD (d .phase) t 0 → length content ≡ 64 → length wct ≡ 64 → true ≡ has-entry (view d [] [] [] claim standing [] [] no-tally) n t
       → Steps (view d value seen mark claim standing content wct) (Apply n t)
-      (view d value seen mark claim standing′ (fill (contents d value mark content n t) 0 64 content) (fill (wcts d mark wct n t) 0 64 wct)) Accepted
+      (view d value seen mark claim standing′ (fill (contents (d .owner) (d .phase) value mark content n t) 0 64 content) (fill (wcts (d .owner) (d .phase) mark wct n t) 0 64 wct)) Accepted
   apply-steps ln l4 lc lw has =
       accepted
       (λ tally. rw (lt-ltb n (d .nodes) ln, lt-ltb t 32 t32, over-code (getD (d .phase) t 0), le-leb 4 (getD (d .phase) t 0) l4, ← has))

@@ -1,65 +1,68 @@
 // The commands at a node: TAKE and APPLY. Each does what its rule says.
-ghost use Prim.Native.Nat.{ℕ, _+_, _*_, _<_};
+ghost use Prim.Native.Nat.{ℕ, _+_, _*_, _≤_, _<_};
 ghost use mathlib.Core.Path.{_≡_};
 ghost use mathlib.Core.Bool.{_&&_, cond};
 ghost use mathlib.Core.List.{List};
 ghost use lib.ListN.{length};
 ghost use lib.Dec.{eqb, leb};
 ghost use Rattle.rules.specs.Bytes.{Take, Apply};
-ghost use Rattle.state.specs.View.{view, Steps};
+ghost use Rattle.state.specs.View.{control, view, Steps};
 ghost use Rattle.state.specs.Fill.{fill};
-ghost use Rattle.state.specs.Ready.{Shaped, Ready, Rising};
+ghost use Rattle.state.specs.Ready.{Small, Onces, Queued, Ready, Rising};
 ghost use Rattle.nodes.specs.Carry.{contents, wcts};
 use state::Answer;
-use state::Control;
 use state::Session;
-use state::Stepped;
 use state::Verdict;
 
 // Node n takes the next save of the order.
 pub fn take(
-    mut d: Control,
+    nodes: u8,
+    sheets: u8,
+    placed: u8,
+    owner: &[u8; Session::SHEETS],
+    failed: &mut [u8; Session::SAVES],
+    order: &[u8; Session::SAVES],
+    taken: &mut [u8; Session::NODES],
     seen: &[u32; Session::COPIES],
     claim: &[u8; Session::COPIES],
     standing: &mut [u8; Session::STANDING],
     wct: &[u32; Session::SHEETS],
     n: u8,
-) -> Stepped
-    requires { ⌜ Ready d × (length (now standing) ≡ 256) ⌝ }
-    ensures { λ r. ⌜ ((value mark content : List ℕ) → Steps (view d value (now (seen .entry)) mark (now (claim .entry)) (now (standing .entry)) content (now (wct .entry))) (Take n) (view (r .control) value (now (seen .entry)) mark (now (claim .entry)) (now (standing .exit)) content (now (wct .entry))) (r .answer)) ⌝ }
-    ensures kept { λ r. ⌜ (length (now (standing .exit)) ≡ 256) × Shaped (r .control) ⌝ }
+) -> Answer
+    requires { ⌜ Queued sheets (now owner) (now order) (now taken) × (nodes ≤ 8) × (placed ≤ 32) × Small (now order) placed × (length (now failed) ≡ 32) × (length (now taken) ≡ 8) × (length (now standing) ≡ 256) ⌝ }
+    ensures { λ r. ⌜ ((phase runs place value mark content : List ℕ) → Ready (control nodes sheets placed (now (owner .entry)) phase (now (failed .entry)) runs (now (order .entry)) place (now (taken .entry))) → Steps (view (control nodes sheets placed (now (owner .entry)) phase (now (failed .entry)) runs (now (order .entry)) place (now (taken .entry))) value (now (seen .entry)) mark (now (claim .entry)) (now (standing .entry)) content (now (wct .entry))) (Take n) (view (control nodes sheets placed (now (owner .entry)) phase (now (failed .exit)) runs (now (order .entry)) place (now (taken .exit))) value (now (seen .entry)) mark (now (claim .entry)) (now (standing .exit)) content (now (wct .entry))) r) ⌝ }
+    ensures kept { λ _. ⌜ (length (now (failed .exit)) ≡ 32) × (length (now (taken .exit)) ≡ 8) × (length (now (standing .exit)) ≡ 256) ⌝ }
 {
-    if d.nodes <= n {
-        return Stepped {
-            answer: Answer::Refused(4),
-            control: d,
-        };
+    if nodes <= n {
+        return Answer::Refused(4);
     }
     let ni = n as usize;
-    let p = d.taken[ni];
-    if d.placed <= p {
-        return Stepped {
-            answer: Answer::Refused(9),
-            control: d,
-        };
+    let p = taken[ni];
+    if placed <= p {
+        return Answer::Refused(9);
     }
     let pi = p as usize;
-    let t = d.order[pi];
+    let t = order[pi];
     let ti = t as usize;
-    let b = sheets::finds_invalid(d, seen, claim, standing, wct, n, t);
+    let b = sheets::finds_invalid(
+        sheets,
+        owner,
+        order,
+        taken,
+        seen,
+        claim,
+        standing,
+        wct,
+        n,
+        t,
+    );
     standing[ni * Session::SAVES + ti] = 1;
-    d.taken[ni] = p + 1;
+    taken[ni] = p + 1;
     if b {
-        d.failed[ti] = 1;
-        return Stepped {
-            answer: Answer::Took(t, Verdict::Invalid),
-            control: d,
-        };
+        failed[ti] = 1;
+        return Answer::Took(t, Verdict::Invalid);
     }
-    Stepped {
-        answer: Answer::Took(t, Verdict::Valid),
-        control: d,
-    }
+    Answer::Took(t, Verdict::Valid)
 }
 
 // A sheet of owner o receives the content at node n: the save's phase is p and its mark there m.
@@ -90,7 +93,8 @@ fn raise(b: bool, w: u32) -> u32
 
 // The sheets of node n that save t wrote receive its contents, and their WCTs rise.
 fn carry_out(
-    d: Control,
+    owner: &[u8; Session::SHEETS],
+    phase: &[u8; Session::SAVES],
     value: &[u32; Session::COPIES],
     mark: &[u8; Session::COPIES],
     content: &mut [u32; Session::SHEETS],
@@ -99,13 +103,13 @@ fn carry_out(
     t: usize,
 )
     requires { ⌜ (t < 32) × Rising (now wct) ⌝ }
-    ensures contents { λ _. ⌜ now (content .exit) ≡ fill (contents d (now (value .entry)) (now (mark .entry)) (now (content .entry)) n t) 0 64 (now (content .entry)) ⌝ }
-    ensures wcts { λ _. ⌜ now (wct .exit) ≡ fill (wcts d (now (mark .entry)) (now (wct .entry)) n t) 0 64 (now (wct .entry)) ⌝ }
+    ensures contents { λ _. ⌜ now (content .exit) ≡ fill (contents (now (owner .entry)) (now (phase .entry)) (now (value .entry)) (now (mark .entry)) (now (content .entry)) n t) 0 64 (now (content .entry)) ⌝ }
+    ensures wcts { λ _. ⌜ now (wct .exit) ≡ fill (wcts (now (owner .entry)) (now (phase .entry)) (now (mark .entry)) (now (wct .entry)) n t) 0 64 (now (wct .entry)) ⌝ }
 {
-    let p = d.phase[t];
+    let p = phase[t];
     let mut k: usize = 0;
     while k < Session::SHEETS {
-        let o = d.owner[k];
+        let o = owner[k];
         let i = t * Session::SHEETS + k;
         let m = mark[i];
         let g = receives(o, n, p, m);
@@ -119,7 +123,13 @@ fn carry_out(
 
 // Node n carries out save t's outcome, and t's entries there go.
 pub fn apply(
-    d: Control,
+    nodes: u8,
+    sheets: u8,
+    owner: &[u8; Session::SHEETS],
+    phase: &[u8; Session::SAVES],
+    order: &[u8; Session::SAVES],
+    place: &[u8; Session::SAVES],
+    taken: &[u8; Session::NODES],
     value: &[u32; Session::COPIES],
     mark: &[u8; Session::COPIES],
     claim: &[u8; Session::COPIES],
@@ -129,24 +139,24 @@ pub fn apply(
     n: u8,
     t: u8,
 ) -> Answer
-    requires { ⌜ Ready d × (length (now standing) ≡ 256) × (length (now content) ≡ 64) × (length (now wct) ≡ 64) × Rising (now wct) ⌝ }
-    ensures { λ r. ⌜ ((seen : List ℕ) → Steps (view d (now (value .entry)) seen (now (mark .entry)) (now (claim .entry)) (now (standing .entry)) (now (content .entry)) (now (wct .entry))) (Apply n t) (view d (now (value .entry)) seen (now (mark .entry)) (now (claim .entry)) (now (standing .exit)) (now (content .exit)) (now (wct .exit))) r) ⌝ }
+    requires { ⌜ Queued sheets (now owner) (now order) (now taken) × Onces (now order) (now place) (now taken) × (nodes ≤ 8) × (length (now standing) ≡ 256) × (length (now content) ≡ 64) × (length (now wct) ≡ 64) × Rising (now wct) ⌝ }
+    ensures { λ r. ⌜ ((placed : ℕ) (failed runs seen : List ℕ) → Steps (view (control nodes sheets placed (now (owner .entry)) (now (phase .entry)) failed runs (now (order .entry)) (now (place .entry)) (now (taken .entry))) (now (value .entry)) seen (now (mark .entry)) (now (claim .entry)) (now (standing .entry)) (now (content .entry)) (now (wct .entry))) (Apply n t) (view (control nodes sheets placed (now (owner .entry)) (now (phase .entry)) failed runs (now (order .entry)) (now (place .entry)) (now (taken .entry))) (now (value .entry)) seen (now (mark .entry)) (now (claim .entry)) (now (standing .exit)) (now (content .exit)) (now (wct .exit))) r) ⌝ }
     ensures kept { λ _. ⌜ (length (now (standing .exit)) ≡ 256) × (length (now (content .exit)) ≡ 64) × (length (now (wct .exit)) ≡ 64) ⌝ }
 {
-    if d.nodes <= n {
+    if nodes <= n {
         return Answer::Refused(4);
     }
     if 32 <= t {
         return Answer::Refused(4);
     }
     let ti = t as usize;
-    let p = d.phase[ti];
+    let p = phase[ti];
     if p < 4 {
         return Answer::Refused(5);
     }
-    let h = sheets::has_entry(d, claim, standing, n, t);
+    let h = sheets::has_entry(sheets, owner, order, place, taken, claim, standing, n, t);
     if h {
-        carry_out(d, value, mark, content, wct, n, ti);
+        carry_out(owner, phase, value, mark, content, wct, n, ti);
         standing[(n as usize) * Session::SAVES + ti] = 0;
         return Answer::Accepted;
     }

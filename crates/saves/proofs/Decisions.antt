@@ -17,7 +17,6 @@ use Rattle.state.specs.declared.Control.{Control}
 use Rattle.state.specs.declared.Answer.the-variants.{Commits, SecondRun, Refused}
 use Rattle.state.specs.View.{as-phase, as-mark, flat, claim-in, view, no-tally, Steps}
 use Rattle.state.specs.Fill.{fill}
-use Rattle.state.specs.Ready.{Shaped}
 use Rattle.state.proofs.Tables.{row-by}
 use Rattle.state.proofs.Codes.{submitted-code}
 use Rattle.state.proofs.Stores.{view-set, row-in, row-out}
@@ -52,26 +51,26 @@ module _ (d : Control) (value seen mark claim standing content wct : List ℕ) (
     pub decide-10 : taken && all-granted ≡ false → Steps S (Decide t) S (Refused 10)
     decide-10 g = refused (λ tally. rw (lt-ltb t 32 t32, e) (not-both taken all-granted 10 g))
 
-    module _ (shaped : Shaped d) (g : taken && all-granted ≡ true) where
+    module _ (lp : length (d .phase) ≡ 32) (g : taken && all-granted ≡ true) where
       pub decide-commits : getD (d .failed) t 0 ≡ 0 → Steps S (Decide t) (view (with-saves d (set (d .phase) t 4) (d .runs)) value seen mark claim standing content wct) Commits
       decide-commits f =
           accepted
           (λ tally. rw (lt-ltb t 32 t32, e) (both taken all-granted 10 g))
-          (λ tally. rw f (same-state refl refl refl (view-set as-phase (d .phase) t 4 (rw (shaped .phase) t32)) refl refl refl refl refl refl refl refl refl))
+          (λ tally. rw f (same-state refl refl refl (view-set as-phase (d .phase) t 4 (rw lp t32)) refl refl refl refl refl refl refl refl refl))
           (λ tally. rw f)
 
-      pub decide-second : getD (d .failed) t 0 ≢ 0 → length mark ≡ 2048
+      pub decide-second : getD (d .failed) t 0 ≢ 0 → length (d .runs) ≡ 32 → length mark ≡ 2048
           → Steps S (Decide t)
           (view (with-saves d (set (d .phase) t 3) (set (d .runs) t (getD (d .runs) t 0 + 1))) value seen (fill (λ j. 0) (t * 64) 64 mark) claim standing content wct) SecondRun
-      decide-second f lm =
+      decide-second f lr lm =
           accepted
           (λ tally. rw (lt-ltb t 32 t32, e) (both taken all-granted 10 g))
-          (λ tally. rw (ne-eqb (getD (d .failed) t 0) 0 f) (same-state refl refl refl (view-set as-phase (d .phase) t 3 (rw (shaped .phase) t32))
+          (λ tally. rw (ne-eqb (getD (d .failed) t 0) 0 f) (same-state refl refl refl (view-set as-phase (d .phase) t 3 (rw lp t32))
           (row-by (λ x y. as-mark (flat (fill (λ j. 0) (t * 64) 64 mark) x y)) (S tally .mark) t (λ k. absent)
           (λ y. rw (row-in mark t (λ j. 0) (rw lm (omega arith)) y) (zero (ltb y 64)))
           (λ x y n. rw (row-out mark t (λ j. 0) x y n)))
           refl refl refl
-          (view-set (λ x. x) (d .runs) t (getD (d .runs) t 0 + 1) (rw (shaped .runs) t32) ∙ rw add-one) refl refl refl refl))
+          (view-set (λ x. x) (d .runs) t (getD (d .runs) t 0 + 1) (rw lr t32) ∙ rw add-one) refl refl refl refl))
           (λ tally. rw (ne-eqb (getD (d .failed) t 0) 0 f))
         where
           zero : (b : Bool) → as-mark (cond b 0 0) ≡ absent

@@ -5,7 +5,7 @@ use mathlib.Core.Logic.{_≢_}
 use mathlib.Core.List.{List}
 use native.Mathlib.Omega.{arith}
 use native.Mathlib.Numerals.{add-one}
-use lib.ListN.{length, getD, set, length-set}
+use lib.ListN.{length, getD, set}
 use lib.Seq.{getD-set-other, take-suc-set}
 use borrow.Author.Tests.{lt-ltb}
 use Rattle.rules.specs.Bytes.{Submit}
@@ -16,7 +16,7 @@ use Rattle.state.specs.declared.Answer.the-variants.{Accepted}
 use Rattle.state.specs.Places.{at}
 use Rattle.state.specs.View.{as-phase, as-mark, flat, claim-in, entered, queue-in, view, Steps}
 use Rattle.state.specs.Fill.{fill}
-use Rattle.state.specs.Ready.{Shaped, Ready}
+use Rattle.state.specs.Ready.{Ready}
 use Rattle.state.proofs.Tables.{row-by}
 use Rattle.state.proofs.Codes.{claim-code}
 use Rattle.state.proofs.Stores.{view-set, row-in, row-out}
@@ -35,18 +35,6 @@ joins-order d t = record {
   order = set (d .order) (d .placed) t;
   place = set (d .place) t (d .placed);
   taken = d .taken;
-}
-
-pub joins-shaped : (d : Control) (t : ℕ) → Shaped d → d .placed < 32 → Shaped (joins-order d t)
-joins-shaped d t z room = record {
-  owner = z .owner;
-  phase = rw length-set (z .phase);
-  failed = z .failed;
-  runs = z .runs;
-  order = rw length-set (z .order);
-  place = rw length-set (z .place);
-  taken = z .taken;
-  fits = omega arith;
 }
 
 module _ (d : Control) (mark claim : List ℕ) (t : ℕ) (t32 : t < 32) (e : getD (d .phase) t 0 ≡ 1) (ready : Ready d) where

@@ -13,7 +13,6 @@ use Rattle.rules.specs.State.{Tally, State}
 use Rattle.state.specs.declared.Control.{Control}
 use Rattle.state.specs.declared.Answer.the-variants.{Accepted, Recommits, Refused}
 use Rattle.state.specs.View.{as-phase, view, Steps}
-use Rattle.state.specs.Ready.{Shaped}
 use Rattle.state.proofs.Codes.{unused-code, first-code, second-code}
 use Rattle.state.proofs.Stores.{view-set}
 use Rattle.state.proofs.Steps.{refused, accepted, same-state}
@@ -30,18 +29,6 @@ with-saves d phase runs = record {
   order = d .order;
   place = d .place;
   taken = d .taken;
-}
-
-pub saves-shaped : (d : Control) (phase runs : List ℕ) → Shaped d → length phase ≡ 32 → length runs ≡ 32 → Shaped (with-saves d phase runs)
-saves-shaped d phase runs z e f = record {
-  owner = z .owner;
-  phase = e;
-  failed = z .failed;
-  runs = f;
-  order = z .order;
-  place = z .place;
-  taken = z .taken;
-  fits = z .fits;
 }
 
 module _ (d : Control) (value seen mark claim standing content wct : List ℕ) (t : ℕ) (t32 : t < 32) where
@@ -63,25 +50,25 @@ module _ (d : Control) (value seen mark claim standing content wct : List ℕ) (
   pub submit-5 : p ≢ 1 → p ≢ 3 → Steps S (Submit t) S (Refused 5)
   submit-5 n m = refused (λ tally. rw (lt-ltb t 32 t32, first-code p, second-code p, ne-eqb p 1 n, ne-eqb p 3 m))
 
-  module _ (shaped : Shaped d) where
-    pub begin-steps : p ≡ 0 → Steps S (Begin t) (S′ (set (d .phase) t 1) (set (d .runs) t (getD (d .runs) t 0 + 1))) Accepted
-    begin-steps e =
+  module _ (lp : length (d .phase) ≡ 32) where
+    pub begin-steps : length (d .runs) ≡ 32 → p ≡ 0 → Steps S (Begin t) (S′ (set (d .phase) t 1) (set (d .runs) t (getD (d .runs) t 0 + 1))) Accepted
+    begin-steps lr e =
         accepted
         (λ tally. rw (lt-ltb t 32 t32, e))
-        (λ tally. same-state refl refl refl (view-set as-phase (d .phase) t 1 (rw (shaped .phase) t32)) refl refl refl refl
-        (view-set (λ x. x) (d .runs) t (getD (d .runs) t 0 + 1) (rw (shaped .runs) t32) ∙ rw add-one) refl refl refl refl)
+        (λ tally. same-state refl refl refl (view-set as-phase (d .phase) t 1 (rw lp t32)) refl refl refl refl
+        (view-set (λ x. x) (d .runs) t (getD (d .runs) t 0 + 1) (rw lr t32) ∙ rw add-one) refl refl refl refl)
         (λ tally. refl)
 
     pub give-up-steps : (eqb p 1 || eqb p 3) ≡ true → Steps S (GiveUp t) (S′ (set (d .phase) t 5) (d .runs)) Accepted
     give-up-steps run =
         accepted
         (λ tally. rw (lt-ltb t 32 t32, first-code p, second-code p, run))
-        (λ tally. same-state refl refl refl (view-set as-phase (d .phase) t 5 (rw (shaped .phase) t32)) refl refl refl refl refl refl refl refl refl)
+        (λ tally. same-state refl refl refl (view-set as-phase (d .phase) t 5 (rw lp t32)) refl refl refl refl refl refl refl refl refl)
         (λ tally. refl)
 
     pub submit-second : p ≡ 3 → Steps S (Submit t) (S′ (set (d .phase) t 4) (d .runs)) Recommits
     submit-second e =
         accepted
         (λ tally. rw (lt-ltb t 32 t32, e))
-        (λ tally. rw e (same-state refl refl refl (view-set as-phase (d .phase) t 4 (rw (shaped .phase) t32)) refl refl refl refl refl refl refl refl refl))
+        (λ tally. rw e (same-state refl refl refl (view-set as-phase (d .phase) t 4 (rw lp t32)) refl refl refl refl refl refl refl refl refl))
         (λ tally. refl)

@@ -1,5 +1,5 @@
 // The commands that move a save on: BEGIN, SUBMIT, DECIDE and GIVE UP. Each does what its rule says.
-ghost use Prim.Native.Nat.{ℕ, _+_, _*_, _<_};
+ghost use Prim.Native.Nat.{ℕ, _+_, _*_, _≤_, _<_};
 ghost use mathlib.Core.Path.{_≡_};
 ghost use mathlib.Core.Bool.{_&&_, _||_, not};
 ghost use mathlib.Core.List.{List, []};
@@ -8,69 +8,50 @@ ghost use Rattle.rules.specs.Bytes.{Begin, Submit, Decide, GiveUp};
 ghost use Rattle.rules.specs.Table.{all};
 ghost use Rattle.rules.specs.State.{claims};
 ghost use Rattle.rules.specs.Steps.{has-taken, granted};
-ghost use Rattle.state.specs.View.{claim-in, view, no-tally, Steps};
+ghost use Rattle.state.specs.View.{claim-in, control, view, no-tally, Steps};
 ghost use Rattle.state.specs.Fill.{fill};
-ghost use Rattle.state.specs.Ready.{Shaped, Ready};
+ghost use Rattle.state.specs.Ready.{Onces, Queued, Ready, Room, Runs};
 use state::Answer;
-use state::Control;
 use state::Session;
 use state::Stepped;
 
 // An unused save enters its first run.
-pub fn begin(mut d: Control, t: u8) -> Stepped
-    requires { ⌜ Ready d ⌝ }
-    ensures { λ r. ⌜ ((value seen mark claim standing content wct : List ℕ) → Steps (view d value seen mark claim standing content wct) (Begin t) (view (r .control) value seen mark claim standing content wct) (r .answer)) ⌝ }
-    ensures kept { λ r. ⌜ Shaped (r .control) ⌝ }
+pub fn begin(phase: &mut [u8; Session::SAVES], runs: &mut [u8; Session::SAVES], t: u8) -> Answer
+    requires { ⌜ (length (now phase) ≡ 32) × (length (now runs) ≡ 32) × Runs (now runs) ⌝ }
+    ensures { λ r. ⌜ ((nodes sheets placed : ℕ) (owner failed order place taken value seen mark claim standing content wct : List ℕ) → Steps (view (control nodes sheets placed owner (now (phase .entry)) failed (now (runs .entry)) order place taken) value seen mark claim standing content wct) (Begin t) (view (control nodes sheets placed owner (now (phase .exit)) failed (now (runs .exit)) order place taken) value seen mark claim standing content wct) r) ⌝ }
+    ensures kept { λ _. ⌜ (length (now (phase .exit)) ≡ 32) × (length (now (runs .exit)) ≡ 32) ⌝ }
 {
     if 32 <= t {
-        return Stepped {
-            answer: Answer::Refused(4),
-            control: d,
-        };
+        return Answer::Refused(4);
     }
     let ti = t as usize;
-    let p = d.phase[ti];
+    let p = phase[ti];
     if p != 0 {
-        return Stepped {
-            answer: Answer::Refused(5),
-            control: d,
-        };
+        return Answer::Refused(5);
     }
-    let r = d.runs[ti];
-    d.phase[ti] = 1;
-    d.runs[ti] = r + 1;
-    Stepped {
-        answer: Answer::Accepted,
-        control: d,
-    }
+    let r = runs[ti];
+    phase[ti] = 1;
+    runs[ti] = r + 1;
+    Answer::Accepted
 }
 
 // A running save is dropped.
-pub fn give_up(mut d: Control, t: u8) -> Stepped
-    requires { ⌜ Ready d ⌝ }
-    ensures { λ r. ⌜ ((value seen mark claim standing content wct : List ℕ) → Steps (view d value seen mark claim standing content wct) (GiveUp t) (view (r .control) value seen mark claim standing content wct) (r .answer)) ⌝ }
-    ensures kept { λ r. ⌜ Shaped (r .control) ⌝ }
+pub fn give_up(phase: &mut [u8; Session::SAVES], t: u8) -> Answer
+    requires { ⌜ length (now phase) ≡ 32 ⌝ }
+    ensures { λ r. ⌜ ((nodes sheets placed : ℕ) (owner failed runs order place taken value seen mark claim standing content wct : List ℕ) → Steps (view (control nodes sheets placed owner (now (phase .entry)) failed runs order place taken) value seen mark claim standing content wct) (GiveUp t) (view (control nodes sheets placed owner (now (phase .exit)) failed runs order place taken) value seen mark claim standing content wct) r) ⌝ }
+    ensures kept { λ _. ⌜ length (now (phase .exit)) ≡ 32 ⌝ }
 {
     if 32 <= t {
-        return Stepped {
-            answer: Answer::Refused(4),
-            control: d,
-        };
+        return Answer::Refused(4);
     }
     let ti = t as usize;
-    let p = d.phase[ti];
+    let p = phase[ti];
     let run = state::running(p);
     if !run {
-        return Stepped {
-            answer: Answer::Refused(5),
-            control: d,
-        };
+        return Answer::Refused(5);
     }
-    d.phase[ti] = 5;
-    Stepped {
-        answer: Answer::Accepted,
-        control: d,
-    }
+    phase[ti] = 5;
+    Answer::Accepted
 }
 
 // Save t's marks become its claim: a copy is an S, a written one an X.
@@ -88,46 +69,47 @@ fn claim_row(claim: &mut [u8; Session::COPIES], mark: &[u8; Session::COPIES], t:
 
 // First run: the save joins the end of the order with its claim. Second run: it is committed.
 pub fn submit(
-    mut d: Control,
+    placed: u8,
+    phase: &mut [u8; Session::SAVES],
+    order: &mut [u8; Session::SAVES],
+    place: &mut [u8; Session::SAVES],
     mark: &[u8; Session::COPIES],
     claim: &mut [u8; Session::COPIES],
     t: u8,
 ) -> Stepped
-    requires { ⌜ Ready d × (length (now claim) ≡ 2048) ⌝ }
-    ensures { λ r. ⌜ ((value seen standing content wct : List ℕ) → Steps (view d value seen (now (mark .entry)) (now (claim .entry)) standing content wct) (Submit t) (view (r .control) value seen (now (mark .entry)) (now (claim .exit)) standing content wct) (r .answer)) ⌝ }
-    ensures kept { λ r. ⌜ (length (now (claim .exit)) ≡ 2048) × Shaped (r .control) ⌝ }
+    requires { ⌜ (placed ≤ 32) × Room (now phase) placed × (length (now phase) ≡ 32) × (length (now order) ≡ 32) × (length (now place) ≡ 32) × (length (now claim) ≡ 2048) ⌝ }
+    ensures { λ r. ⌜ ((nodes sheets : ℕ) (owner failed runs taken value seen standing content wct : List ℕ) → Ready (control nodes sheets placed owner (now (phase .entry)) failed runs (now (order .entry)) (now (place .entry)) taken) → Steps (view (control nodes sheets placed owner (now (phase .entry)) failed runs (now (order .entry)) (now (place .entry)) taken) value seen (now (mark .entry)) (now (claim .entry)) standing content wct) (Submit t) (view (control nodes sheets (r .placed) owner (now (phase .exit)) failed runs (now (order .exit)) (now (place .exit)) taken) value seen (now (mark .entry)) (now (claim .exit)) standing content wct) (r .answer)) ⌝ }
+    ensures kept { λ r. ⌜ (r .placed ≤ 32) × (length (now (phase .exit)) ≡ 32) × (length (now (order .exit)) ≡ 32) × (length (now (place .exit)) ≡ 32) × (length (now (claim .exit)) ≡ 2048) ⌝ }
 {
     if 32 <= t {
         return Stepped {
             answer: Answer::Refused(4),
-            control: d,
+            placed: placed,
         };
     }
     let ti = t as usize;
-    let p = d.phase[ti];
+    let p = phase[ti];
     if p == 1 {
         claim_row(claim, mark, ti);
-        let at = d.placed;
-        let ai = at as usize;
-        d.phase[ti] = 2;
-        d.order[ai] = t;
-        d.place[ti] = at;
-        d.placed = at + 1;
+        let ai = placed as usize;
+        phase[ti] = 2;
+        order[ai] = t;
+        place[ti] = placed;
         return Stepped {
             answer: Answer::Accepted,
-            control: d,
+            placed: placed + 1,
         };
     }
     if p == 3 {
-        d.phase[ti] = 4;
+        phase[ti] = 4;
         return Stepped {
             answer: Answer::Recommits,
-            control: d,
+            placed: placed,
         };
     }
     Stepped {
         answer: Answer::Refused(5),
-        control: d,
+        placed: placed,
     }
 }
 
@@ -145,68 +127,64 @@ fn clear_row(mark: &mut [u8; Session::COPIES], t: usize)
 
 // Save t was taken by every node that owns a claimed sheet, and its entries are granted.
 fn decidable(
-    d: Control,
+    sheets: u8,
+    owner: &[u8; Session::SHEETS],
+    order: &[u8; Session::SAVES],
+    place: &[u8; Session::SAVES],
+    taken: &[u8; Session::NODES],
     claim: &[u8; Session::COPIES],
     standing: &[u8; Session::STANDING],
     t: u8,
 ) -> bool
-    requires { ⌜ Ready d × (t < 32) ⌝ }
-    ensures { λ r. ⌜ r ≡ (all (d .sheets) (λ k. not (claims (claim-in (now (claim .entry)) t k)) || has-taken (view d [] [] [] (now (claim .entry)) [] [] [] no-tally) (getD (d .owner) k 0) t) && all (d .sheets) (λ k. granted (view d [] [] [] (now (claim .entry)) (now (standing .entry)) [] [] no-tally) t k)) ⌝ }
+    requires { ⌜ Queued sheets (now owner) (now order) (now taken) × Onces (now order) (now place) (now taken) × (t < 32) ⌝ }
+    ensures { λ r. ⌜ r ≡ (all sheets (λ k. not (claims (claim-in (now (claim .entry)) t k)) || has-taken (view (control 0 sheets 0 (now (owner .entry)) [] [] [] [] (now (place .entry)) (now (taken .entry))) [] [] [] (now (claim .entry)) [] [] [] no-tally) (getD (now (owner .entry)) k 0) t) && all sheets (λ k. granted (view (control 0 sheets 0 (now (owner .entry)) [] [] [] (now (order .entry)) (now (place .entry)) (now (taken .entry))) [] [] [] (now (claim .entry)) (now (standing .entry)) [] [] no-tally) t k)) ⌝ }
 {
-    let h = sheets::all_taken(d, claim, t);
+    let h = sheets::all_taken(sheets, owner, place, taken, claim, t);
     if !h {
         return false;
     }
-    sheets::all_granted(d, claim, standing, t)
+    sheets::all_granted(sheets, owner, order, taken, claim, standing, t)
 }
 
 // A save that did not fail is committed, a failed one enters its second run.
 pub fn decide(
-    mut d: Control,
+    sheets: u8,
+    owner: &[u8; Session::SHEETS],
+    phase: &mut [u8; Session::SAVES],
+    failed: &[u8; Session::SAVES],
+    runs: &mut [u8; Session::SAVES],
+    order: &[u8; Session::SAVES],
+    place: &[u8; Session::SAVES],
+    taken: &[u8; Session::NODES],
     mark: &mut [u8; Session::COPIES],
     claim: &[u8; Session::COPIES],
     standing: &[u8; Session::STANDING],
     t: u8,
-) -> Stepped
-    requires { ⌜ Ready d × (length (now mark) ≡ 2048) ⌝ }
-    ensures { λ r. ⌜ ((value seen content wct : List ℕ) → Steps (view d value seen (now (mark .entry)) (now (claim .entry)) (now (standing .entry)) content wct) (Decide t) (view (r .control) value seen (now (mark .exit)) (now (claim .entry)) (now (standing .entry)) content wct) (r .answer)) ⌝ }
-    ensures kept { λ r. ⌜ (length (now (mark .exit)) ≡ 2048) × Shaped (r .control) ⌝ }
+) -> Answer
+    requires { ⌜ Queued sheets (now owner) (now order) (now taken) × Onces (now order) (now place) (now taken) × Runs (now runs) × (length (now phase) ≡ 32) × (length (now runs) ≡ 32) × (length (now mark) ≡ 2048) ⌝ }
+    ensures { λ r. ⌜ ((nodes placed : ℕ) (value seen content wct : List ℕ) → Steps (view (control nodes sheets placed (now (owner .entry)) (now (phase .entry)) (now (failed .entry)) (now (runs .entry)) (now (order .entry)) (now (place .entry)) (now (taken .entry))) value seen (now (mark .entry)) (now (claim .entry)) (now (standing .entry)) content wct) (Decide t) (view (control nodes sheets placed (now (owner .entry)) (now (phase .exit)) (now (failed .entry)) (now (runs .exit)) (now (order .entry)) (now (place .entry)) (now (taken .entry))) value seen (now (mark .exit)) (now (claim .entry)) (now (standing .entry)) content wct) r) ⌝ }
+    ensures kept { λ _. ⌜ (length (now (phase .exit)) ≡ 32) × (length (now (runs .exit)) ≡ 32) × (length (now (mark .exit)) ≡ 2048) ⌝ }
 {
     if 32 <= t {
-        return Stepped {
-            answer: Answer::Refused(4),
-            control: d,
-        };
+        return Answer::Refused(4);
     }
     let ti = t as usize;
-    let p = d.phase[ti];
+    let p = phase[ti];
     if p != 2 {
-        return Stepped {
-            answer: Answer::Refused(5),
-            control: d,
-        };
+        return Answer::Refused(5);
     }
-    let g = decidable(d, claim, standing, t);
+    let g = decidable(sheets, owner, order, place, taken, claim, standing, t);
     if !g {
-        return Stepped {
-            answer: Answer::Refused(10),
-            control: d,
-        };
+        return Answer::Refused(10);
     }
-    let f = d.failed[ti];
+    let f = failed[ti];
     if f == 0 {
-        d.phase[ti] = 4;
-        return Stepped {
-            answer: Answer::Commits,
-            control: d,
-        };
+        phase[ti] = 4;
+        return Answer::Commits;
     }
     clear_row(mark, ti);
-    let r = d.runs[ti];
-    d.phase[ti] = 3;
-    d.runs[ti] = r + 1;
-    Stepped {
-        answer: Answer::SecondRun,
-        control: d,
-    }
+    let r = runs[ti];
+    phase[ti] = 3;
+    runs[ti] = r + 1;
+    Answer::SecondRun
 }

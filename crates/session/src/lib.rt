@@ -1,6 +1,7 @@
 // The run over a whole session.
 ghost use mathlib.Core.Path.{_≡_};
 ghost use Rattle.wire.specs.Meaning.{opened};
+ghost use Rattle.state.specs.View.{control};
 ghost use Rattle.wire.specs.declared.Opened.the-variants.{Header};
 ghost use Rattle.session.specs.Meaning.{refusal-in, reply-to};
 ghost use Rattle.session.specs.Carried.{Carried};
@@ -69,17 +70,37 @@ pub struct Ended {
 }
 
 fn closed(
-    control: Control,
+    nodes: u8,
+    sheets: u8,
+    placed: u8,
+    owner: [u8; Session::SHEETS],
+    phase: [u8; Session::SAVES],
+    failed: [u8; Session::SAVES],
+    runs: [u8; Session::SAVES],
+    order: [u8; Session::SAVES],
+    place: [u8; Session::SAVES],
+    taken: [u8; Session::NODES],
     content: [u32; Session::SHEETS],
     wct: [u32; Session::SHEETS],
     tally: Tally,
     last: Reply,
     stop: Stop,
 ) -> Ended
-    ensures { λ r. ⌜ r ≡ record { control = control; content = content; wct = wct; tally = tally; last = last; stop = stop } ⌝ }
+    ensures { λ r. ⌜ r ≡ record { control = control nodes sheets placed owner phase failed runs order place taken; content = content; wct = wct; tally = tally; last = last; stop = stop } ⌝ }
 {
     Ended {
-        control: control,
+        control: Control {
+            nodes: nodes,
+            sheets: sheets,
+            placed: placed,
+            owner: owner,
+            phase: phase,
+            failed: failed,
+            runs: runs,
+            order: order,
+            place: place,
+            taken: taken,
+        },
         content: content,
         wct: wct,
         tally: tally,
@@ -88,20 +109,26 @@ fn closed(
     }
 }
 
-// Carries a session with this header through to its end or its first refusal. The large tables live here, and are lent to each step.
+// Carries a session with this header through to its end or its first refusal. The arrays live here, and are lent to each step.
 pub fn run(session: &[u8], nodes: u8, sheets: u8) -> Ended
     requires { ⌜ Header nodes sheets ≡ opened (now session) ⌝ }
     ensures { λ r. ⌜ Carried (now (session .entry)) r ⌝ }
 {
-    let f = Session::fresh(nodes, sheets, wire::owners(session));
-    let mut d = f.control;
-    let mut value = f.value;
-    let mut seen = f.seen;
-    let mut mark = f.mark;
-    let mut claim = f.claim;
-    let mut standing = f.standing;
-    let mut content = f.content;
-    let mut wct = f.wct;
+    let owner = wire::owners(session);
+    let mut placed: u8 = 0;
+    let mut phase: [u8; Session::SAVES] = [0; Session::SAVES];
+    let mut failed: [u8; Session::SAVES] = [0; Session::SAVES];
+    let mut runs: [u8; Session::SAVES] = [0; Session::SAVES];
+    let mut order: [u8; Session::SAVES] = [0; Session::SAVES];
+    let mut place: [u8; Session::SAVES] = [0; Session::SAVES];
+    let mut taken: [u8; Session::NODES] = [0; Session::NODES];
+    let mut value: [u32; Session::COPIES] = [0; Session::COPIES];
+    let mut seen: [u32; Session::COPIES] = [0; Session::COPIES];
+    let mut mark: [u8; Session::COPIES] = [0; Session::COPIES];
+    let mut claim: [u8; Session::COPIES] = [0; Session::COPIES];
+    let mut standing: [u8; Session::STANDING] = [0; Session::STANDING];
+    let mut content: [u32; Session::SHEETS] = [0; Session::SHEETS];
+    let mut wct: [u32; Session::SHEETS] = [0; Session::SHEETS];
     let mut tally = Tally::new();
     let mut last = Reply::NoCommand;
     let mut at: usize = 2 + sheets as usize;
@@ -110,7 +137,16 @@ pub fn run(session: &[u8], nodes: u8, sheets: u8) -> Ended
         match next {
             Next::Step(c, w) => {
                 let r = engine::step(
-                    d,
+                    nodes,
+                    sheets,
+                    placed,
+                    &owner,
+                    &mut phase,
+                    &mut failed,
+                    &mut runs,
+                    &mut order,
+                    &mut place,
+                    &mut taken,
                     &mut value,
                     &mut seen,
                     &mut mark,
@@ -121,28 +157,100 @@ pub fn run(session: &[u8], nodes: u8, sheets: u8) -> Ended
                     c,
                 );
                 let a = r.answer;
-                let e = r.control;
-                d = e;
+                placed = r.placed;
                 let n = refusal(a);
                 if n != 0 {
-                    return closed(d, content, wct, tally, last, Stop::Refused(at, n, 1 + w));
+                    return closed(
+                        nodes,
+                        sheets,
+                        placed,
+                        owner,
+                        phase,
+                        failed,
+                        runs,
+                        order,
+                        place,
+                        taken,
+                        content,
+                        wct,
+                        tally,
+                        last,
+                        Stop::Refused(at, n, 1 + w),
+                    );
                 }
                 let t = tally.advanced(a);
                 tally = t;
                 last = told(a);
                 at = at + 1 + w;
             }
-            Next::Unknown => return closed(d, content, wct, tally, last, Stop::Refused(at, 2, 1)),
+            Next::Unknown => return closed(
+                nodes,
+                sheets,
+                placed,
+                owner,
+                phase,
+                failed,
+                runs,
+                order,
+                place,
+                taken,
+                content,
+                wct,
+                tally,
+                last,
+                Stop::Refused(at, 2, 1),
+            ),
             Next::Cut => return closed(
-                d,
+                nodes,
+                sheets,
+                placed,
+                owner,
+                phase,
+                failed,
+                runs,
+                order,
+                place,
+                taken,
                 content,
                 wct,
                 tally,
                 last,
                 Stop::Refused(at, 3, session.len() - at),
             ),
-            Next::End => return closed(d, content, wct, tally, last, Stop::End),
+            Next::End => return closed(
+                nodes,
+                sheets,
+                placed,
+                owner,
+                phase,
+                failed,
+                runs,
+                order,
+                place,
+                taken,
+                content,
+                wct,
+                tally,
+                last,
+                Stop::End,
+            ),
         }
     }
-    closed(d, content, wct, tally, last, Stop::End)
+    closed(
+        nodes,
+        sheets,
+        placed,
+        owner,
+        phase,
+        failed,
+        runs,
+        order,
+        place,
+        taken,
+        content,
+        wct,
+        tally,
+        last,
+        Stop::End,
+    )
 }

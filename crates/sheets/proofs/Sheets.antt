@@ -9,28 +9,26 @@ use borrow.Author.Tests.{ne-eqb}
 use Rattle.rules.specs.Table.{any}
 use Rattle.rules.specs.State.{claims}
 use Rattle.rules.specs.Steps.{mem, has-entry}
-use Rattle.state.specs.declared.Control.{Control}
 use Rattle.state.specs.Places.{at}
-use Rattle.state.specs.View.{set?, claim-in, entered, queue-in, view, no-tally}
-use Rattle.state.specs.Ready.{Ready}
+use Rattle.state.specs.View.{set?, claim-in, entered, queue-in, control, view, no-tally}
+use Rattle.state.specs.Ready.{Onces}
 use Rattle.state.proofs.Tables.{same?, any-cong, any-none}
 use Rattle.queues.proofs.Walk.{entries-mem}
-use Rattle.queues.proofs.Taken.{once-taken}
 
 -- what is asked at a sheet of node n is asked at its owner
 pub at-owner : (o n : ℕ) (f : ℕ → Bool) → (eqb o n && f n) ≡ (eqb o n && f o)
 at-owner o n f = same? o n (λ e. rw e) (λ z. rw (ne-eqb o n z))
 
-module _ (d : Control) (claim standing : List ℕ) (n t : ℕ) (ready : Ready d) where
+module _ (sheets : ℕ) (owner order place taken claim standing : List ℕ) (n t : ℕ) (once : Onces order place taken) where
   -- save t has its place among those that node n has taken, and stands there
   abbrev here : Bool
-  here = set? (getD standing (n * 32 + t) 0) && (ltb (getD (d .place) t 0) (getD (d .taken) n 0) && eqb (at (d .order) (getD (d .place) t 0)) t)
+  here = set? (getD standing (n * 32 + t) 0) && (ltb (getD place t 0) (getD taken n 0) && eqb (at order (getD place t 0)) t)
 
-  entry-code : (k : ℕ) → mem t (queue-in (d .order) (λ u. getD (d .place) u 0) standing claim n k (getD (d .taken) n 0)) ≡ (here && claims (claim-in claim t k))
+  entry-code : (k : ℕ) → mem t (queue-in order (λ u. getD place u 0) standing claim n k (getD taken n 0)) ≡ (here && claims (claim-in claim t k))
   unfolding entered
   entry-code k =
-      entries-mem (d .order) (λ u. getD (d .place) u 0) (entered standing claim n k) t (getD (d .taken) n 0) (once-taken d ready n)
-      ∙ moved (set? (getD standing (n * 32 + t) 0)) (claims (claim-in claim t k)) (ltb (getD (d .place) t 0) (getD (d .taken) n 0) && eqb (at (d .order) (getD (d .place) t 0)) t)
+      entries-mem order (λ u. getD place u 0) (entered standing claim n k) t (getD taken n 0) (once n)
+      ∙ moved (set? (getD standing (n * 32 + t) 0)) (claims (claim-in claim t k)) (ltb (getD place t 0) (getD taken n 0) && eqb (at order (getD place t 0)) t)
     where
       moved : (a b c : Bool) → (a && b) && c ≡ (a && c) && b
       moved true true c = sym (and-true c)
@@ -39,15 +37,15 @@ module _ (d : Control) (claim standing : List ℕ) (n t : ℕ) (ready : Ready d)
 
   abbrev entry-at : ℕ → Bool
   entry-at k =
-      eqb (getD (d .owner) k 0) n
-      && mem t (queue-in (d .order) (λ u. getD (d .place) u 0) standing claim (getD (d .owner) k 0) k (getD (d .taken) (getD (d .owner) k 0) 0))
+      eqb (getD owner k 0) n
+      && mem t (queue-in order (λ u. getD place u 0) standing claim (getD owner k 0) k (getD taken (getD owner k 0) 0))
 
-  entry-is : (k : ℕ) → entry-at k ≡ (eqb (getD (d .owner) k 0) n && (here && claims (claim-in claim t k)))
+  entry-is : (k : ℕ) → entry-at k ≡ (eqb (getD owner k 0) n && (here && claims (claim-in claim t k)))
   entry-is k =
-      sym (at-owner (getD (d .owner) k 0) n (λ m. mem t (queue-in (d .order) (λ u. getD (d .place) u 0) standing claim m k (getD (d .taken) m 0)))) ∙ rw (entry-code k)
+      sym (at-owner (getD owner k 0) n (λ m. mem t (queue-in order (λ u. getD place u 0) standing claim m k (getD taken m 0)))) ∙ rw (entry-code k)
 
-  pub entry-none : here ≡ false → has-entry (view d [] [] [] claim standing [] [] no-tally) n t ≡ false
-  entry-none e = any-none (d .sheets) entry-at (λ k l. entry-is k ∙ rw e (and-false (eqb (getD (d .owner) k 0) n)))
+  pub entry-none : here ≡ false → has-entry (view (control 0 sheets 0 owner [] [] [] order place taken) [] [] [] claim standing [] [] no-tally) n t ≡ false
+  entry-none e = any-none sheets entry-at (λ k l. entry-is k ∙ rw e (and-false (eqb (getD owner k 0) n)))
 
-  pub entry-some : here ≡ true → has-entry (view d [] [] [] claim standing [] [] no-tally) n t ≡ any (d .sheets) (λ k. eqb (getD (d .owner) k 0) n && claims (claim-in claim t k))
-  entry-some e = any-cong (d .sheets) entry-at (λ k. eqb (getD (d .owner) k 0) n && claims (claim-in claim t k)) (λ k l. entry-is k ∙ rw e)
+  pub entry-some : here ≡ true → has-entry (view (control 0 sheets 0 owner [] [] [] order place taken) [] [] [] claim standing [] [] no-tally) n t ≡ any sheets (λ k. eqb (getD owner k 0) n && claims (claim-in claim t k))
+  entry-some e = any-cong sheets entry-at (λ k. eqb (getD owner k 0) n && claims (claim-in claim t k)) (λ k l. entry-is k ∙ rw e)

@@ -1,20 +1,19 @@
 // The tests that commands make at every sheet: what TAKE finds, what DECIDE asks, where APPLY finds an entry.
-// A contract names the rules' test at the view; the tables that a test does not read are [] there.
+// A contract names the rules' test at the view; what a test does not read is [] or 0 there.
 ghost use Prim.Native.Nat.{ℕ, _+_, _*_, _<_, _≤_};
 ghost use mathlib.Core.Path.{_≡_};
 ghost use mathlib.Core.Bool.{_&&_, _||_, not};
-ghost use mathlib.Core.List.{[]};
+ghost use mathlib.Core.List.{List, []};
 ghost use lib.ListN.{getD};
 ghost use lib.Dec.{eqb, ltb};
 ghost use Rattle.rules.specs.Table.{all, any};
 ghost use Rattle.rules.specs.State.{claims};
 ghost use Rattle.rules.specs.Steps.{granted, has-taken, finds-invalid, has-entry};
 ghost use Rattle.state.specs.Places.{at};
-ghost use Rattle.state.specs.View.{set?, claim-in, view, no-tally};
-ghost use Rattle.state.specs.Ready.{Once, Ready};
+ghost use Rattle.state.specs.View.{set?, claim-in, control, view, no-tally};
+ghost use Rattle.state.specs.Ready.{Once, Onces, Owners, Queued};
 ghost use Rattle.queues.specs.Walk.{Walk};
 ghost use Rattle.sheets.specs.Fails.{fails-in};
-use state::Control;
 use state::Session;
 
 // Node n, which owns sheet k if o is n, finds save t invalid there.
@@ -51,7 +50,10 @@ fn fails_at(
 
 // TAKE: node n finds save t invalid at one of its sheets.
 pub fn finds_invalid(
-    d: Control,
+    sheets: u8,
+    owner: &[u8; Session::SHEETS],
+    order: &[u8; Session::SAVES],
+    taken: &[u8; Session::NODES],
     seen: &[u32; Session::COPIES],
     claim: &[u8; Session::COPIES],
     standing: &[u8; Session::STANDING],
@@ -59,16 +61,16 @@ pub fn finds_invalid(
     n: u8,
     t: u8,
 ) -> bool
-    requires { ⌜ Ready d × (n < 8) × (t < 32) ⌝ }
-    ensures { λ r. ⌜ r ≡ finds-invalid (view d [] (now (seen .entry)) [] (now (claim .entry)) (now (standing .entry)) [] (now (wct .entry)) no-tally) n t ⌝ }
+    requires { ⌜ Queued sheets (now owner) (now order) (now taken) × (n < 8) × (t < 32) ⌝ }
+    ensures { λ r. ⌜ ((place : List ℕ) → Onces (now (order .entry)) place (now (taken .entry)) → r ≡ finds-invalid (view (control 0 sheets 0 (now (owner .entry)) [] [] [] (now (order .entry)) place (now (taken .entry))) [] (now (seen .entry)) [] (now (claim .entry)) (now (standing .entry)) [] (now (wct .entry)) no-tally) n t) ⌝ }
 {
     let ni = n as usize;
-    let upto = d.taken[ni] as usize;
-    let mut k = d.sheets as usize;
+    let upto = taken[ni] as usize;
+    let mut k = sheets as usize;
     while 0 < k {
         k -= 1;
-        let o = d.owner[k];
-        let b = fails_at(&d.order, seen, claim, standing, wct, o, n, upto, t, k);
+        let o = owner[k];
+        let b = fails_at(order, seen, claim, standing, wct, o, n, upto, t, k);
         if b {
             return true;
         }
@@ -87,17 +89,24 @@ fn taken_at(c: u8, p: u8, m: u8) -> bool
 }
 
 // DECIDE: save t was taken by every node that owns a claimed sheet.
-pub fn all_taken(d: Control, claim: &[u8; Session::COPIES], t: u8) -> bool
-    requires { ⌜ Ready d × (t < 32) ⌝ }
-    ensures { λ r. ⌜ r ≡ all (d .sheets) (λ k. not (claims (claim-in (now (claim .entry)) t k)) || has-taken (view d [] [] [] (now (claim .entry)) [] [] [] no-tally) (getD (d .owner) k 0) t) ⌝ }
+pub fn all_taken(
+    sheets: u8,
+    owner: &[u8; Session::SHEETS],
+    place: &[u8; Session::SAVES],
+    taken: &[u8; Session::NODES],
+    claim: &[u8; Session::COPIES],
+    t: u8,
+) -> bool
+    requires { ⌜ (sheets ≤ 64) × Owners (now owner) × (t < 32) ⌝ }
+    ensures { λ r. ⌜ r ≡ all sheets (λ k. not (claims (claim-in (now (claim .entry)) t k)) || has-taken (view (control 0 sheets 0 (now (owner .entry)) [] [] [] [] (now (place .entry)) (now (taken .entry))) [] [] [] (now (claim .entry)) [] [] [] no-tally) (getD (now (owner .entry)) k 0) t) ⌝ }
 {
     let ti = t as usize;
-    let p = d.place[ti];
-    let mut k = d.sheets as usize;
+    let p = place[ti];
+    let mut k = sheets as usize;
     while 0 < k {
         k -= 1;
-        let o = d.owner[k] as usize;
-        let m = d.taken[o];
+        let o = owner[k] as usize;
+        let m = taken[o];
         let c = claim[ti * Session::SHEETS + k];
         let h = taken_at(c, p, m);
         if h {} else {
@@ -109,20 +118,23 @@ pub fn all_taken(d: Control, claim: &[u8; Session::COPIES], t: u8) -> bool
 
 // DECIDE: save t's entries are granted.
 pub fn all_granted(
-    d: Control,
+    sheets: u8,
+    owner: &[u8; Session::SHEETS],
+    order: &[u8; Session::SAVES],
+    taken: &[u8; Session::NODES],
     claim: &[u8; Session::COPIES],
     standing: &[u8; Session::STANDING],
     t: u8,
 ) -> bool
-    requires { ⌜ Ready d × (t < 32) ⌝ }
-    ensures { λ r. ⌜ r ≡ all (d .sheets) (λ k. granted (view d [] [] [] (now (claim .entry)) (now (standing .entry)) [] [] no-tally) t k) ⌝ }
+    requires { ⌜ Queued sheets (now owner) (now order) (now taken) × (t < 32) ⌝ }
+    ensures { λ r. ⌜ ((place : List ℕ) → Onces (now (order .entry)) place (now (taken .entry)) → r ≡ all sheets (λ k. granted (view (control 0 sheets 0 (now (owner .entry)) [] [] [] (now (order .entry)) place (now (taken .entry))) [] [] [] (now (claim .entry)) (now (standing .entry)) [] [] no-tally) t k)) ⌝ }
 {
-    let mut k = d.sheets as usize;
+    let mut k = sheets as usize;
     while 0 < k {
         k -= 1;
-        let n = d.owner[k] as usize;
-        let upto = d.taken[n] as usize;
-        let g = queues::granted_at(&d.order, standing, claim, n, k, upto, t);
+        let n = owner[k] as usize;
+        let upto = taken[n] as usize;
+        let g = queues::granted_at(order, standing, claim, n, k, upto, t);
         if g {} else {
             return false;
         }
@@ -137,7 +149,7 @@ fn stands(
     n: usize,
     upto: usize,
     t: u8,
-    q: usize,
+    q: u8,
 ) -> bool
     requires { ⌜ (n < 8) × (t < 32) × (upto ≤ 32) ⌝ }
     ensures { λ r. ⌜ r ≡ (set? (getD (now (standing .entry)) (n * 32 + t) 0) && (ltb q upto && eqb (at (now (order .entry)) q) t)) ⌝ }
@@ -146,10 +158,11 @@ fn stands(
     if e == 0 {
         return false;
     }
-    if upto <= q {
+    let qi = q as usize;
+    if upto <= qi {
         return false;
     }
-    let u = order[q];
+    let u = order[qi];
     u == t
 }
 
@@ -164,15 +177,21 @@ fn claimed_here(o: u8, n: u8, c: u8) -> bool
 }
 
 // Save t claims a sheet of node n.
-fn claims_here(d: Control, claim: &[u8; Session::COPIES], n: u8, t: u8) -> bool
-    requires { ⌜ Ready d × (t < 32) ⌝ }
-    ensures { λ r. ⌜ r ≡ any (d .sheets) (λ k. eqb (getD (d .owner) k 0) n && claims (claim-in (now (claim .entry)) t k)) ⌝ }
+fn claims_here(
+    sheets: u8,
+    owner: &[u8; Session::SHEETS],
+    claim: &[u8; Session::COPIES],
+    n: u8,
+    t: u8,
+) -> bool
+    requires { ⌜ (sheets ≤ 64) × (t < 32) ⌝ }
+    ensures { λ r. ⌜ r ≡ any sheets (λ k. eqb (getD (now (owner .entry)) k 0) n && claims (claim-in (now (claim .entry)) t k)) ⌝ }
 {
     let ti = t as usize;
-    let mut k = d.sheets as usize;
+    let mut k = sheets as usize;
     while 0 < k {
         k -= 1;
-        let o = d.owner[k];
+        let o = owner[k];
         let c = claim[ti * Session::SHEETS + k];
         let h = claimed_here(o, n, c);
         if h {
@@ -184,22 +203,26 @@ fn claims_here(d: Control, claim: &[u8; Session::COPIES], n: u8, t: u8) -> bool
 
 // APPLY: save t has an entry at node n.
 pub fn has_entry(
-    d: Control,
+    sheets: u8,
+    owner: &[u8; Session::SHEETS],
+    order: &[u8; Session::SAVES],
+    place: &[u8; Session::SAVES],
+    taken: &[u8; Session::NODES],
     claim: &[u8; Session::COPIES],
     standing: &[u8; Session::STANDING],
     n: u8,
     t: u8,
 ) -> bool
-    requires { ⌜ Ready d × (n < 8) × (t < 32) ⌝ }
-    ensures { λ r. ⌜ r ≡ has-entry (view d [] [] [] (now (claim .entry)) (now (standing .entry)) [] [] no-tally) n t ⌝ }
+    requires { ⌜ Queued sheets (now owner) (now order) (now taken) × Onces (now order) (now place) (now taken) × (n < 8) × (t < 32) ⌝ }
+    ensures { λ r. ⌜ r ≡ has-entry (view (control 0 sheets 0 (now (owner .entry)) [] [] [] (now (order .entry)) (now (place .entry)) (now (taken .entry))) [] [] [] (now (claim .entry)) (now (standing .entry)) [] [] no-tally) n t ⌝ }
 {
     let ni = n as usize;
     let ti = t as usize;
-    let upto = d.taken[ni] as usize;
-    let q = d.place[ti] as usize;
-    let s = stands(&d.order, standing, ni, upto, t, q);
+    let upto = taken[ni] as usize;
+    let q = place[ti];
+    let s = stands(order, standing, ni, upto, t, q);
     if s {
-        return claims_here(d, claim, n, t);
+        return claims_here(sheets, owner, claim, n, t);
     }
     false
 }

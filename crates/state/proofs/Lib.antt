@@ -4,3 +4,4 @@ pub mod Stores
 pub mod Places
 pub mod Steps
 pub mod Ready
+pub mod Fresh

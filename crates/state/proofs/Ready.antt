@@ -12,7 +12,7 @@ use Rattle.rules.specs.State.{Tally, is-first}
 use Rattle.state.specs.declared.Control.{Control}
 use Rattle.state.specs.Places.{at}
 use Rattle.state.specs.View.{as-phase, view}
-use Rattle.state.specs.Ready.{Shaped, Known, Ready, Rising}
+use Rattle.state.specs.Ready.{Shaped, Known, Queued, Onces, Ready, Rising}
 use Rattle.state.proofs.Tables.{bool}
 use Rattle.state.proofs.Places.{order-length}
 
@@ -77,3 +77,16 @@ module _ (d : Control) (value seen mark claim standing content wct : List ℕ) (
 
   pub rising : length wct ≡ 64 → Rising wct
   rising e k = let z = everywhere wct 64 4294967294 e (λ i l. let y = known .rises i l in omega arith) k in omega arith
+
+-- what the walks ask
+module _ (d : Control) (r : Ready d) where
+  pub queued : Queued (d .sheets) (d .owner) (d .order) (d .taken)
+  queued = record {
+    sheets64 = r .sheets64;
+    owners = r .owners;
+    takens = λ n. let z = r .takens n in omega (arith, r .shaped .fits);
+    small = λ n q l. let z = r .takens n in r .small q (omega arith);
+  }
+
+  pub onces : Onces (d .order) (d .place) (d .taken)
+  onces n q l = let z = r .takens n in r .once q (omega arith)

@@ -54,17 +54,40 @@ Small order upto = (q : ℕ) → q < upto → at order q < 32
 abbrev pub Once : List ℕ → (ℕ → ℕ) → ℕ → Type 0
 Once order place upto = (q : ℕ) → q < upto → place (at order q) ≡ q
 
+-- a save in its first run finds a place
+abbrev pub Room : List ℕ → ℕ → Type 0
+Room phase placed = (t : ℕ) → t < 32 → getD phase t 0 ≡ 1 → placed < 32
+
+-- one more run fits
+abbrev pub Runs : List ℕ → Type 0
+Runs runs = (t : ℕ) → getD runs t 0 < 255
+
+-- every sheet's owner is a node
+abbrev pub Owners : List ℕ → Type 0
+Owners owner = (k : ℕ) → getD owner k 0 < 8
+
+-- a walk over what a node has taken is in the arrays
+pub record Queued (sheets : ℕ) (owner order taken : List ℕ) : Type 0 where
+  pub sheets64 : sheets ≤ 64
+  pub owners : Owners owner
+  pub takens : (n : ℕ) → getD taken n 0 ≤ 32
+  pub small : (n : ℕ) → Small order (getD taken n 0)
+
+-- each place that a node has taken is its save's only one
+abbrev pub Onces : (order place taken : List ℕ) → Type 0
+Onces order place taken = (n : ℕ) → Once order (λ t. getD place t 0) (getD taken n 0)
+
 pub record Ready (d : Control) : Type 0 where
   pub shaped : Shaped d
   pub nodes8 : d .nodes ≤ 8
   pub sheets64 : d .sheets ≤ 64
-  pub owners : (k : ℕ) → getD (d .owner) k 0 < 8
+  pub owners : Owners (d .owner)
   pub takens : (n : ℕ) → getD (d .taken) n 0 ≤ d .placed
   pub small : Small (d .order) (d .placed)
   pub once : Once (d .order) (λ t. getD (d .place) t 0) (d .placed)
   pub joined : (q : ℕ) → q < d .placed → getD (d .phase) (at (d .order) q) 0 ≢ 1
-  pub room : (t : ℕ) → t < 32 → getD (d .phase) t 0 ≡ 1 → d .placed < 32
-  pub runs : (t : ℕ) → getD (d .runs) t 0 < 255
+  pub room : Room (d .phase) (d .placed)
+  pub runs : Runs (d .runs)
 
 -- a write counter can rise
 abbrev pub Rising : List ℕ → Type 0

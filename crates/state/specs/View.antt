@@ -60,6 +60,21 @@ queue-in order place standing claim n k upto = entries order place (entered stan
 abbrev pub header-of : ℕ → ℕ → List ℕ → Header
 header-of nodes sheets owner = record { nodes = nodes; sheets = sheets; owner = λ k. getD owner k 0 }
 
+-- the record of the arrays that are lent one by one
+abbrev pub control : (nodes sheets placed : ℕ) → (owner phase failed runs order place taken : List ℕ) → Control
+control nodes sheets placed owner phase failed runs order place taken = record {
+  nodes = nodes;
+  sheets = sheets;
+  placed = placed;
+  owner = owner;
+  phase = phase;
+  failed = failed;
+  runs = runs;
+  order = order;
+  place = place;
+  taken = taken;
+}
+
 abbrev pub view : Control → (value seen mark claim standing content wct : List ℕ) → Tally → State
 view d value seen mark claim standing content wct tally = record {
   header = header-of (d .nodes) (d .sheets) (d .owner);

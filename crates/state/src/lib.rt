@@ -1,4 +1,4 @@
-// A session's state as arrays. What is small goes by value, as `Control`; the tables are lent and changed in place.
+// A session's state as arrays, which are lent to the commands and changed in place. `Control` is the record of all but the tables.
 ghost use mathlib.Core.Path.{_≡_};
 ghost use mathlib.Core.Bool.{_||_};
 ghost use lib.Dec.{eqb};
@@ -92,10 +92,10 @@ pub enum Answer {
     Refused(u8),
 }
 
-// What a command that changes the control gives.
+// What a step gives: its answer, and how many places the order has now.
 pub struct Stepped {
     pub answer: Answer,
-    pub control: Control,
+    pub placed: u8,
 }
 
 // A save of phase p is in its first or second run.

@@ -77,7 +77,17 @@ fn run() {
     let mut owner = [0u8; 64];
     owner[1] = 1;
     let s = Session::fresh(2, 2, owner);
-    let mut d = s.control;
+    let d = s.control;
+    let nodes = d.nodes;
+    let sheets = d.sheets;
+    let mut placed = d.placed;
+    let owners = d.owner;
+    let mut phase = d.phase;
+    let mut failed = d.failed;
+    let mut runs = d.runs;
+    let mut order = d.order;
+    let mut place = d.place;
+    let mut taken = d.taken;
     let mut value = s.value;
     let mut seen = s.seen;
     let mut mark = s.mark;
@@ -89,7 +99,16 @@ fn run() {
     while i < 17 {
         let c = command(i);
         let r = engine::step(
-            d,
+            nodes,
+            sheets,
+            placed,
+            &owners,
+            &mut phase,
+            &mut failed,
+            &mut runs,
+            &mut order,
+            &mut place,
+            &mut taken,
             &mut value,
             &mut seen,
             &mut mark,
@@ -101,8 +120,7 @@ fn run() {
         );
         let a = r.answer;
         print(a);
-        let e = r.control;
-        d = e;
+        placed = r.placed;
         i += 1;
     }
 }

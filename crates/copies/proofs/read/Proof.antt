@@ -3,24 +3,25 @@ use mathlib.Core.Path.{sym, _∙_}
 use native.Mathlib.Omega.{arith}
 use lib.ListN.{getD, length-set}
 use borrow.Author.Tests.{lt-ltb, le-ltb, not-true, not-false}
+use Rattle.state.specs.View.{control}
 use Rattle.state.proofs.Steps.{refused}
-use Rattle.queues.proofs.Taken.{walk-taken, once-taken}
+use Rattle.queues.proofs.Taken.{walk-taken}
 use Rattle.copies.proofs.Tables.{read-5, read-8, read-own, read-6, read-new}
 use borrow.Author.Needs.{needs}
 use Rattle.copies.proofs.read.Statement.{statement}
 use Rattle.copies.proofs.read.Tie as tie
 
 returns : tie.Need-returns
-returns c = (refused (λ tally. simp (le-ltb _ _ (c .if1 .taken))), search needs)
+returns c = ((λ nodes placed failed runs place once. refused (λ tally. simp (le-ltb _ _ (c .if1 .taken)))), search needs)
 
 returns-2 : tie.Need-returns-2
-returns-2 c = (refused (λ tally. simp (lt-ltb _ _ (c .before .if1 .left), le-ltb _ _ (c .if2 .taken))), search needs)
+returns-2 c = ((λ nodes placed failed runs place once. refused (λ tally. simp (lt-ltb _ _ (c .before .if1 .left), le-ltb _ _ (c .if2 .taken)))), search needs)
 
 mul-i : tie.Need-mul-i
 mul-i c = search needs
 
 add-i : tie.Need-add-i
-add-i c = search needs
+add-i c = let z = c .before .before .pre .0 .sheets64 in omega arith
 
 element-copy-out-p : tie.Need-element-copy-out-p
 element-copy-out-p c = search needs
@@ -32,8 +33,9 @@ returns-3 : tie.Need-returns-3
 returns-3 c =
     let s = c .before .before .before .before .before in
     let a = s .args in (
-      read-5 (a .t1) (a .value .now) (a .seen .now) (a .mark .now) (a .claim .now) (a .standing .now) (a .content .now) (a .wct .now) (a .t) (a .k) (c .before .before .before .before .if1 .left) (c .before .before .before .if2 .left) (s .pre .0)
-          (sym (c .before .running .ensures) ∙ not-true _ (c .if3 .taken)),
+      (λ nodes placed failed runs place once.
+          read-5 (control nodes (a .sheets) placed (a .owner .now) (a .phase .now) failed runs (a .order .now) place (a .taken .now)) (a .value .now) (a .seen .now) (a .mark .now) (a .claim .now) (a .standing .now) (a .content .now) (a .wct .now) (a .t) (a .k) (c .before .before .before .before .if1 .left) (c .before .before .before .if2 .left) (s .pre .0 .sheets64)
+          (sym (c .before .running .ensures) ∙ not-true _ (c .if3 .taken))),
       search needs,
     )
 
@@ -47,8 +49,9 @@ returns-4 : tie.Need-returns-4
 returns-4 c =
     let s = c .before .before .before .before .before .before .before .before in
     let a = s .args in (
-      read-8 (a .t1) (a .value .now) (a .seen .now) (a .mark .now) (a .claim .now) (a .standing .now) (a .content .now) (a .wct .now) (a .t) (a .k) (c .before .before .before .before .before .before .before .if1 .left) (c .before .before .before .before .before .before .if2 .left) (s .pre .0)
-          (sym (c .before .before .before .before .running .ensures) ∙ not-false _ (c .before .before .before .if3 .left)) (sym (c .before .readable .ensures) ∙ not-true _ (c .if4 .taken)),
+      (λ nodes placed failed runs place once.
+          read-8 (control nodes (a .sheets) placed (a .owner .now) (a .phase .now) failed runs (a .order .now) place (a .taken .now)) (a .value .now) (a .seen .now) (a .mark .now) (a .claim .now) (a .standing .now) (a .content .now) (a .wct .now) (a .t) (a .k) (c .before .before .before .before .before .before .before .if1 .left) (c .before .before .before .before .before .before .if2 .left) (s .pre .0 .sheets64)
+          (sym (c .before .before .before .before .running .ensures) ∙ not-false _ (c .before .before .before .if3 .left)) (sym (c .before .readable .ensures) ∙ not-true _ (c .if4 .taken))),
       search needs,
     )
 
@@ -65,13 +68,14 @@ returns-5 : tie.Need-returns-5
 returns-5 c =
     let s = c .before .before .before .before .before .before .before .before .before .before .before in
     let a = s .args in (
-      read-own (a .t1) (a .value .now) (a .seen .now) (a .mark .now) (a .claim .now) (a .standing .now) (a .content .now) (a .wct .now) (a .t) (a .k) (c .before .before .before .before .before .before .before .before .before .before .if1 .left) (c .before .before .before .before .before .before .before .before .before .if2 .left) (s .pre .0)
-          (sym (c .before .before .before .before .before .before .before .running .ensures) ∙ not-false _ (c .before .before .before .before .before .before .if3 .left)) (sym (c .before .before .before .before .readable .ensures) ∙ not-false _ (c .before .before .before .if4 .left)) (c .before .if5 .taken),
+      (λ nodes placed failed runs place once.
+          read-own (control nodes (a .sheets) placed (a .owner .now) (a .phase .now) failed runs (a .order .now) place (a .taken .now)) (a .value .now) (a .seen .now) (a .mark .now) (a .claim .now) (a .standing .now) (a .content .now) (a .wct .now) (a .t) (a .k) (c .before .before .before .before .before .before .before .before .before .before .if1 .left) (c .before .before .before .before .before .before .before .before .before .if2 .left) (s .pre .0 .sheets64)
+          (sym (c .before .before .before .before .before .before .before .running .ensures) ∙ not-false _ (c .before .before .before .before .before .before .if3 .left)) (sym (c .before .before .before .before .readable .ensures) ∙ not-false _ (c .before .before .before .if4 .left)) (c .before .if5 .taken)),
       search needs,
     )
 
 element-copy-out-n : tie.Need-element-copy-out-n
-element-copy-out-n c = search needs
+element-copy-out-n c = let z = c .before .before .before .before .before .before .before .before .before .before .pre .0 .sheets64 in omega arith
 
 cast-n : tie.Need-cast-n
 cast-n c = omega (arith, c .before .before .before .before .before .before .before .before .before .before .before .pre .0 .owners (c .before .before .before .before .before .before .before .before .before .before .before .args .k))
@@ -80,19 +84,20 @@ element-copy-out-upto : tie.Need-element-copy-out-upto
 element-copy-out-upto c = omega (arith, c .before .before .before .before .before .before .before .before .before .before .before .pre .0 .owners (c .before .before .before .before .before .before .before .before .before .before .before .args .k))
 
 cast-upto : tie.Need-cast-upto
-cast-upto c = omega (arith, c .before .before .before .before .before .before .before .before .before .before .before .before .pre .0 .takens (getD (c .before .before .before .before .before .before .before .before .before .before .before .before .args .t1 .owner) (c .before .before .before .before .before .before .before .before .before .before .before .before .args .k) 0), c .before .before .before .before .before .before .before .before .before .before .before .before .pre .0 .shaped .fits)
+cast-upto c = omega (arith, c .before .before .before .before .before .before .before .before .before .before .before .before .pre .0 .takens (getD (c .before .before .before .before .before .before .before .before .before .before .before .before .args .owner .now) (c .before .before .before .before .before .before .before .before .before .before .before .before .args .k) 0))
 
 blocked-requires : tie.Need-blocked-requires
 blocked-requires c κs =
-    let s = c .before .before .before .before .before .before .before .before .before .before .before .before .before .before in
-    walk-taken (s .args .t1) (s .pre .0) (getD (s .args .t1 .owner) (s .args .k) 0) (s .args .k) (s .pre .0 .owners (s .args .k)) (omega (arith, c .before .before .before .before .before .before .before .before .before .before .before .before .if2 .left, s .pre .0 .sheets64))
+    let s = c .before .before .before .before .before .before .before .before .before .before .before .before in
+    walk-taken (s .pre .0) (getD (s .args .owner .now) (s .args .k) 0) (s .args .k) (s .pre .0 .owners (s .args .k)) (omega (arith, c .before .before .before .before .before .before .before .before .before .before .if2 .left, s .pre .0 .sheets64))
 
 returns-6 : tie.Need-returns-6
 returns-6 c =
-    let s = c .before .before .before .before .before .before .before .before .before .before .before .before .before .before .before .before in
+    let s = c .before .before .before .before .before .before .before .before .before .before .before .before .before .before in
     let a = s .args in (
-      read-6 (a .t1) (a .value .now) (a .seen .now) (a .mark .now) (a .claim .now) (a .standing .now) (a .content .now) (a .wct .now) (a .t) (a .k) (c .before .before .before .before .before .before .before .before .before .before .before .before .before .before .before .if1 .left) (c .before .before .before .before .before .before .before .before .before .before .before .before .before .before .if2 .left) (s .pre .0)
-          (sym (c .before .before .before .before .before .before .before .before .before .before .before .before .running .ensures) ∙ not-false _ (c .before .before .before .before .before .before .before .before .before .before .before .if3 .left)) (sym (c .before .before .before .before .before .before .before .before .before .readable .ensures) ∙ not-false _ (c .before .before .before .before .before .before .before .before .if4 .left)) (c .before .before .before .before .before .before .if5 .left) (sym (c .before .blocked .ensures (λ u. getD (a .t1 .place) u 0) (once-taken (a .t1) (s .pre .0) (getD (a .t1 .owner) (a .k) 0))) ∙ c .if6 .taken),
+      (λ nodes placed failed runs place once.
+          read-6 (control nodes (a .sheets) placed (a .owner .now) (a .phase .now) failed runs (a .order .now) place (a .taken .now)) (a .value .now) (a .seen .now) (a .mark .now) (a .claim .now) (a .standing .now) (a .content .now) (a .wct .now) (a .t) (a .k) (c .before .before .before .before .before .before .before .before .before .before .before .before .before .if1 .left) (c .before .before .before .before .before .before .before .before .before .before .before .before .if2 .left) (s .pre .0 .sheets64)
+          (sym (c .before .before .before .before .before .before .before .before .before .before .running .ensures) ∙ not-false _ (c .before .before .before .before .before .before .before .before .before .if3 .left)) (sym (c .before .before .before .before .before .before .before .readable .ensures) ∙ not-false _ (c .before .before .before .before .before .before .if4 .left)) (c .before .before .before .before .if5 .left) (sym (c .before .blocked .ensures (λ u. getD place u 0) (once (getD (a .owner .now) (a .k) 0))) ∙ c .if6 .taken)),
       search needs,
     )
 
@@ -125,10 +130,11 @@ element-write-mark c = search needs
 
 returns-7 : tie.Need-returns-7
 returns-7 c =
-    let s = c .before .before .before .before .before .before .before .before .before .before .before .before .before .before .before .before .before .before in
+    let s = c .before .before .before .before .before .before .before .before .before .before .before .before .before .before .before .before in
     let a = s .args in (
-      read-new (a .t1) (a .value .now) (a .seen .now) (a .mark .now) (a .claim .now) (a .standing .now) (a .content .now) (a .wct .now) (a .t) (a .k) (c .before .before .before .before .before .before .before .before .before .before .before .before .before .before .before .before .before .if1 .left) (c .before .before .before .before .before .before .before .before .before .before .before .before .before .before .before .before .if2 .left) (s .pre .0)
-          (sym (c .before .before .before .before .before .before .before .before .before .before .before .before .before .before .running .ensures) ∙ not-false _ (c .before .before .before .before .before .before .before .before .before .before .before .before .before .if3 .left)) (sym (c .before .before .before .before .before .before .before .before .before .before .before .readable .ensures) ∙ not-false _ (c .before .before .before .before .before .before .before .before .before .before .if4 .left)) (c .before .before .before .before .before .before .before .before .if5 .left) (sym (c .before .before .before .blocked .ensures (λ u. getD (a .t1 .place) u 0) (once-taken (a .t1) (s .pre .0) (getD (a .t1 .owner) (a .k) 0))) ∙ c .before .before .if6 .left) (s .pre .1) (s .pre .2) (s .pre .3),
+      (λ nodes placed failed runs place once.
+          read-new (control nodes (a .sheets) placed (a .owner .now) (a .phase .now) failed runs (a .order .now) place (a .taken .now)) (a .value .now) (a .seen .now) (a .mark .now) (a .claim .now) (a .standing .now) (a .content .now) (a .wct .now) (a .t) (a .k) (c .before .before .before .before .before .before .before .before .before .before .before .before .before .before .before .if1 .left) (c .before .before .before .before .before .before .before .before .before .before .before .before .before .before .if2 .left) (s .pre .0 .sheets64)
+          (sym (c .before .before .before .before .before .before .before .before .before .before .before .before .running .ensures) ∙ not-false _ (c .before .before .before .before .before .before .before .before .before .before .before .if3 .left)) (sym (c .before .before .before .before .before .before .before .before .before .readable .ensures) ∙ not-false _ (c .before .before .before .before .before .before .before .before .if4 .left)) (c .before .before .before .before .before .before .if5 .left) (sym (c .before .before .before .blocked .ensures (λ u. getD place u 0) (once (getD (a .owner .now) (a .k) 0))) ∙ c .before .before .if6 .left) (s .pre .1) (s .pre .2) (s .pre .3)),
       (rw length-set (s .pre .1), rw length-set (s .pre .2), rw length-set (s .pre .3)),
     )
 

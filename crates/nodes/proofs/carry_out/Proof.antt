@@ -18,10 +18,10 @@ raised : {g b : Bool} {y z r : ℕ} → r ≡ cond g (y + 1) y → g ≡ b → y
 raised e f h = rw (e, f, h)
 
 abbrev Inv-loop : tie.InvT-loop
-Inv-loop value mark content₀ wct₀ n t d p k₀ content wct k = (k ≤ 64) × (content ≡ fill (contents d value mark content₀ n t) 0 k content₀) × (wct ≡ fill (wcts d mark wct₀ n t) 0 k wct₀)
+Inv-loop owner phase value mark content₀ wct₀ n t p k₀ content wct k = (k ≤ 64) × (content ≡ fill (contents owner phase value mark content₀ n t) 0 k content₀) × (wct ≡ fill (wcts owner phase mark wct₀ n t) 0 k wct₀)
 
 abbrev μ-loop : tie.MeasureT-loop
-μ-loop value mark content₀ wct₀ n t d p k₀ content wct k = 64 - k
+μ-loop owner phase value mark content₀ wct₀ n t p k₀ content wct k = 64 - k
 
 element-copy-out-p : tie.Need-element-copy-out-p Inv-loop μ-loop
 element-copy-out-p c = search needs
@@ -70,7 +70,7 @@ raise-requires : tie.Need-raise-requires Inv-loop μ-loop
 raise-requires c κs =
     let a = c .before .before .before .before .before .before .before .before .before .before .args in
     let l = c .before .before .before .before .before .before .before .before .loop in
-    rw (not-yet (wcts (a .t1) (a .mark .now) (a .wct .now) (a .n) (a .t)) (a .wct .now) (l .wct) (l .k) (l .inv .2)) (c .before .before .before .before .before .before .before .before .before .before .pre .1 (l .k))
+    rw (not-yet (wcts (a .owner .now) (a .phase .now) (a .mark .now) (a .wct .now) (a .n) (a .t)) (a .wct .now) (l .wct) (l .k) (l .inv .2)) (c .before .before .before .before .before .before .before .before .before .before .pre .1 (l .k))
 
 mul-content : tie.Need-mul-content Inv-loop μ-loop
 mul-content c = search needs
@@ -94,8 +94,8 @@ loop-again : tie.Need-loop-again Inv-loop μ-loop
 loop-again c =
     let a = c .before .before .before .before .before .before .before .before .before .before .before .args in
     let l = c .before .before .before .before .before .before .before .before .before .loop in
-    let f = contents (a .t1) (a .value .now) (a .mark .now) (a .content .now) (a .n) (a .t) in
-    let g = wcts (a .t1) (a .mark .now) (a .wct .now) (a .n) (a .t) in
+    let f = contents (a .owner .now) (a .phase .now) (a .value .now) (a .mark .now) (a .content .now) (a .n) (a .t) in
+    let g = wcts (a .owner .now) (a .phase .now) (a .mark .now) (a .wct .now) (a .n) (a .t) in
     let r = c .before .before .before .before .before .receives in (
       omega arith,
       fill-next f (a .content .now) (l .content) (l .k) _ (l .inv .1)

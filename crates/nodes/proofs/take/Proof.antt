@@ -1,17 +1,18 @@
 -- A refusal for each test, and the effect for each verdict.
 use mathlib.Core.Path.{sym, _∙_}
 use native.Mathlib.Omega.{arith}
-use lib.ListN.{getD, set, length-set}
+use lib.ListN.{getD, length-set}
 use borrow.Author.Tests.{le-ltb}
-use Rattle.state.specs.Places.{at}
+use Rattle.state.specs.View.{control}
+use Rattle.state.proofs.Ready.{onces}
 use Rattle.state.proofs.Steps.{refused}
-use Rattle.nodes.proofs.Joins.{take-9, take-invalid, take-valid, took-shaped}
+use Rattle.nodes.proofs.Joins.{take-9, take-invalid, take-valid}
 use borrow.Author.Needs.{needs}
 use Rattle.nodes.proofs.take.Statement.{statement}
 use Rattle.nodes.proofs.take.Tie as tie
 
 returns : tie.Need-returns
-returns c = ((λ value mark content. refused (λ tally. simp (le-ltb _ _ (c .if1 .taken)))), (search needs, c .before .pre .0 .shaped))
+returns c = ((λ phase runs place value mark content ready. refused (λ tally. simp (le-ltb _ _ (c .if1 .taken)))), search needs)
 
 element-copy-out-p : tie.Need-element-copy-out-p
 element-copy-out-p c = search needs
@@ -20,70 +21,56 @@ returns-2 : tie.Need-returns-2
 returns-2 c =
     let s = c .before .before .before in
     let a = s .args in
-    ((λ value mark content. take-9 (a .t1) (s .pre .0) value (a .seen .now) mark (a .claim .now) (a .standing .now) content (a .wct .now) (a .n) (c .before .before .if1 .left) (c .if2 .taken)), (search needs, s .pre .0 .shaped))
+    ((λ phase runs place value mark content ready. take-9 (control (a .nodes) (a .sheets) (a .placed) (a .owner .now) phase (a .failed .now) runs (a .order .now) place (a .taken .now)) ready value (a .seen .now) mark (a .claim .now) (a .standing .now) content (a .wct .now) (a .n) (c .before .before .if1 .left) (c .if2 .taken)), search needs)
 
 cast-pi : tie.Need-cast-pi
-cast-pi c = search needs
+cast-pi c = omega (arith, c .before .before .before .pre .0 .takens (c .before .before .before .args .n))
 
 element-copy-out-t : tie.Need-element-copy-out-t
 element-copy-out-t c = search needs
 
 cast-ti : tie.Need-cast-ti
-cast-ti c = search needs
+cast-ti c = omega (arith, c .before .before .before .before .pre .3 (getD (c .before .before .before .before .args .taken .now) (c .before .before .before .before .args .n) 0) (c .before .if2 .left))
 
 finds-invalid-requires : tie.Need-finds-invalid-requires
-finds-invalid-requires c κs =
-    let s = c .before .before .before .before .before in
-    (s .pre .0, omega (arith, s .pre .0 .nodes8), s .pre .0 .small (getD (s .args .t1 .taken) (s .args .n) 0) (c .before .before .if2 .left))
+finds-invalid-requires c κs = (c .before .before .before .before .before .before .pre .0, omega (arith, c .before .before .before .before .before .before .pre .1), c .before .before .before .before .before .before .pre .3 (getD (c .before .before .before .before .before .before .args .taken .now) (c .before .before .before .before .before .before .args .n) 0) (c .before .before .before .if2 .left))
 
 mul-standing : tie.Need-mul-standing
 mul-standing c = search needs
 
 add-standing : tie.Need-add-standing
-add-standing c =
-    let s = c .before .before .before .before .before .before in
-    omega (arith, s .pre .0 .nodes8, s .pre .0 .small (getD (s .args .t1 .taken) (s .args .n) 0) (c .before .before .before .if2 .left))
+add-standing c = omega (arith, c .before .before .before .before .before .before .before .pre .1, c .before .before .before .before .before .before .before .pre .3 (getD (c .before .before .before .before .before .before .before .args .taken .now) (c .before .before .before .before .before .before .before .args .n) 0) (c .before .before .before .before .if2 .left))
 
 element-write-standing : tie.Need-element-write-standing
-element-write-standing c =
-    let s = c .before .before .before .before .before .before in
-    omega (arith, s .pre .0 .nodes8, s .pre .0 .small (getD (s .args .t1 .taken) (s .args .n) 0) (c .before .before .before .if2 .left))
+element-write-standing c = omega (arith, c .before .before .before .before .before .before .before .pre .1, c .before .before .before .before .before .before .before .pre .3 (getD (c .before .before .before .before .before .before .before .args .taken .now) (c .before .before .before .before .before .before .before .args .n) 0) (c .before .before .before .before .if2 .left))
 
-add-d : tie.Need-add-d
-add-d c = search needs
+add-taken : tie.Need-add-taken
+add-taken c = search needs
 
-element-write-d : tie.Need-element-write-d
-element-write-d c = search needs
+element-write-taken : tie.Need-element-write-taken
+element-write-taken c = search needs
 
-element-write-d-2 : tie.Need-element-write-d-2
-element-write-d-2 c =
-    let s = c .before .before .before .before .before .before .before in
-    omega (arith, s .pre .0 .small (getD (s .args .t1 .taken) (s .args .n) 0) (c .before .before .before .before .if2 .left))
+element-write-failed : tie.Need-element-write-failed
+element-write-failed c = omega (arith, c .before .before .before .before .before .before .before .before .pre .3 (getD (c .before .before .before .before .before .before .before .before .args .taken .now) (c .before .before .before .before .before .before .before .before .args .n) 0) (c .before .before .before .before .before .if2 .left))
 
 returns-3 : tie.Need-returns-3
 returns-3 c =
-    let s = c .before .before .before .before .before .before .before in
-    let a = s .args in
-    let d = a .t1 in
-    let r = s .pre .0 in
-    let h = c .before .before .before .before .if2 .left in (
-      (λ value mark content.
-          take-invalid d r (a .claim .now) (a .standing .now) (a .n) (omega (arith, r .nodes8)) (s .pre .1) h value (a .seen .now) mark content (a .wct .now)
-          (c .before .before .before .before .before .before .if1 .left) (sym (c .if3 .taken) ∙ c .before .finds-invalid .ensures)),
-      (search needs, took-shaped d (set (d .failed) (at (d .order) (getD (d .taken) (a .n) 0)) 1) (a .n) (r .shaped) (rw length-set (r .shaped .failed))),
+    let s = c .before .before .before .before .before .before .before .before in
+    let a = s .args in (
+      (λ phase runs place value mark content ready.
+          take-invalid (control (a .nodes) (a .sheets) (a .placed) (a .owner .now) phase (a .failed .now) runs (a .order .now) place (a .taken .now)) ready (a .claim .now) (a .standing .now) (a .n) (omega (arith, s .pre .1, c .before .before .before .before .before .before .before .if1 .left)) (s .pre .6) (c .before .before .before .before .before .if2 .left) value (a .seen .now) mark content (a .wct .now)
+          (c .before .before .before .before .before .before .before .if1 .left) (sym (c .if3 .taken) ∙ c .before .finds-invalid .ensures place (onces (control (a .nodes) (a .sheets) (a .placed) (a .owner .now) phase (a .failed .now) runs (a .order .now) place (a .taken .now)) ready))),
+      (rw length-set (s .pre .4), rw length-set (s .pre .5), rw length-set (s .pre .6)),
     )
 
 returns-4 : tie.Need-returns-4
 returns-4 c =
-    let s = c .before .before .before .before .before .before .before in
-    let a = s .args in
-    let d = a .t1 in
-    let r = s .pre .0 in
-    let h = c .before .before .before .before .if2 .left in (
-      (λ value mark content.
-          take-valid d r (a .claim .now) (a .standing .now) (a .n) (omega (arith, r .nodes8)) (s .pre .1) h value (a .seen .now) mark content (a .wct .now)
-          (c .before .before .before .before .before .before .if1 .left) (sym (c .if3 .left) ∙ c .before .finds-invalid .ensures)),
-      (search needs, took-shaped d (d .failed) (a .n) (r .shaped) (r .shaped .failed)),
+    let s = c .before .before .before .before .before .before .before .before in
+    let a = s .args in (
+      (λ phase runs place value mark content ready.
+          take-valid (control (a .nodes) (a .sheets) (a .placed) (a .owner .now) phase (a .failed .now) runs (a .order .now) place (a .taken .now)) ready (a .claim .now) (a .standing .now) (a .n) (omega (arith, s .pre .1, c .before .before .before .before .before .before .before .if1 .left)) (s .pre .6) (c .before .before .before .before .before .if2 .left) value (a .seen .now) mark content (a .wct .now)
+          (c .before .before .before .before .before .before .before .if1 .left) (sym (c .if3 .left) ∙ c .before .finds-invalid .ensures place (onces (control (a .nodes) (a .sheets) (a .placed) (a .owner .now) phase (a .failed .now) runs (a .order .now) place (a .taken .now)) ready))),
+      (s .pre .4, rw length-set (s .pre .5), rw length-set (s .pre .6)),
     )
 
 pub take-spec : {M : Type 1} → statement M
@@ -100,8 +87,8 @@ take-spec =
     mul-standing
     add-standing
     element-write-standing
-    add-d
-    element-write-d
-    element-write-d-2
+    add-taken
+    element-write-taken
+    element-write-failed
     returns-3
     returns-4)

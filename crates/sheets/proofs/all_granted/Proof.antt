@@ -7,28 +7,26 @@ use mathlib.Core.List.{List, []}
 use lib.ListN.{getD}
 use Rattle.rules.specs.Table.{all}
 use Rattle.rules.specs.Steps.{granted}
-use Rattle.state.specs.declared.Control.{Control}
-use Rattle.state.specs.View.{view, no-tally}
+use Rattle.state.specs.View.{control, view, no-tally}
+use Rattle.state.specs.Ready.{Onces}
 use Rattle.state.proofs.Tables.{all-here, all-down, all-end}
-use Rattle.queues.proofs.Taken.{walk-taken, once-taken}
+use Rattle.queues.proofs.Taken.{walk-taken}
 use borrow.Author.Needs.{needs}
 use Rattle.sheets.proofs.all_granted.Statement.{statement}
 use Rattle.sheets.proofs.all_granted.Tie as tie
 
-abbrev test : Control → (claim standing : List ℕ) → (t k : ℕ) → Bool
-test d claim standing t k = granted (view d [] [] [] claim standing [] [] no-tally) t k
+abbrev test : (owner order place taken claim standing : List ℕ) → (t k : ℕ) → Bool
+test owner order place taken claim standing t k = granted (view (control 0 0 0 owner [] [] [] order place taken) [] [] [] claim standing [] [] no-tally) t k
 
 abbrev Inv-loop : tie.InvT-loop
-Inv-loop claim standing t d k₀ k = (k ≤ 64) × (all (d .sheets) (test d claim standing t) ≡ all k (test d claim standing t))
+Inv-loop sheets owner order taken claim standing t k₀ k =
+    (k ≤ 64) × ((place : List ℕ) → Onces order place taken → all sheets (test owner order place taken claim standing t) ≡ all k (test owner order place taken claim standing t))
 
 abbrev μ-loop : tie.MeasureT-loop
-μ-loop claim standing t d k₀ k = k
-
-cast-k : tie.Need-cast-k Inv-loop μ-loop
-cast-k c = search needs
+μ-loop sheets owner order taken claim standing t k₀ k = k
 
 loop-holds : tie.Need-loop-holds Inv-loop μ-loop
-loop-holds c = (c .pre .0 .sheets64, refl)
+loop-holds c = (c .pre .0 .sheets64, λ place once. refl)
 
 sub-k : tie.Need-sub-k Inv-loop μ-loop
 sub-k c = search needs
@@ -37,45 +35,45 @@ element-copy-out-n : tie.Need-element-copy-out-n Inv-loop μ-loop
 element-copy-out-n c = search needs
 
 cast-n : tie.Need-cast-n Inv-loop μ-loop
-cast-n c = search needs
+cast-n c = omega (arith, c .before .before .before .pre .0 .owners (c .before .before .loop .k - 1))
 
 element-copy-out-upto : tie.Need-element-copy-out-upto Inv-loop μ-loop
 element-copy-out-upto c = omega (arith, c .before .before .before .pre .0 .owners (c .before .before .loop .k - 1))
 
 cast-upto : tie.Need-cast-upto Inv-loop μ-loop
-cast-upto c = search needs
+cast-upto c = omega (arith, c .before .before .before .before .pre .0 .takens (getD (c .before .before .before .before .args .owner .now) (c .before .before .before .loop .k - 1) 0))
 
 granted-at-requires : tie.Need-granted-at-requires Inv-loop μ-loop
 granted-at-requires c κs =
-    let s = c .before .before .before .before .before .before in
-    let k = c .before .before .before .before .before .loop .k - 1 in
-    (walk-taken (s .args .t1) (s .pre .0) (getD (s .args .t1 .owner) k 0) k (s .pre .0 .owners k) (omega arith), s .pre .1)
+    let k = c .before .before .before .loop .k - 1 in
+    (walk-taken (c .before .before .before .before .pre .0) (getD (c .before .before .before .before .args .owner .now) k 0) k (c .before .before .before .before .pre .0 .owners k) (omega arith), c .before .before .before .before .pre .1)
 
 loop-less : tie.Need-loop-less Inv-loop μ-loop
 loop-less c = search needs
 
 loop-again : tie.Need-loop-again Inv-loop μ-loop
 loop-again c =
-    let l = c .before .before .before .before .before .before .before .loop in
-    let s = c .before .before .before .before .before .before .before .before in
-    let a = s .args in (
+    let l = c .before .before .before .before .before .loop in
+    let a = c .before .before .before .before .before .before .args in (
       omega arith,
-      l .inv .1 ∙ all-down (l .k) (test (a .t1) (a .claim .now) (a .standing .now) (a .t)) (c .before .before .before .before .before .before .loop-test .taken)
-          (sym (c .before .granted-at .ensures (λ u. getD (a .t1 .place) u 0) (once-taken (a .t1) (s .pre .0) (getD (a .t1 .owner) (l .k - 1) 0))) ∙ c .if1 .taken),
+      λ place once.
+          l .inv .1 place once ∙ all-down (l .k) (test (a .owner .now) (a .order .now) place (a .taken .now) (a .claim .now) (a .standing .now) (a .t)) (c .before .before .before .before .loop-test .taken)
+          (sym (c .before .granted-at .ensures (λ u. getD place u 0) (once (getD (a .owner .now) (l .k - 1) 0))) ∙ c .if1 .taken),
     )
 
 returns : tie.Need-returns Inv-loop μ-loop
 returns c =
-    let l = c .before .before .before .before .before .before .before .loop in
-    let s = c .before .before .before .before .before .before .before .before in
-    let a = s .args in
-    sym (l .inv .1 ∙ all-here (l .k) (test (a .t1) (a .claim .now) (a .standing .now) (a .t)) (c .before .before .before .before .before .before .loop-test .taken)
-    (sym (c .before .granted-at .ensures (λ u. getD (a .t1 .place) u 0) (once-taken (a .t1) (s .pre .0) (getD (a .t1 .owner) (l .k - 1) 0))) ∙ c .if1 .left))
+    let l = c .before .before .before .before .before .loop in
+    let a = c .before .before .before .before .before .before .args in
+    λ place once.
+    sym (l .inv .1 place once ∙ all-here (l .k) (test (a .owner .now) (a .order .now) place (a .taken .now) (a .claim .now) (a .standing .now) (a .t)) (c .before .before .before .before .loop-test .taken)
+    (sym (c .before .granted-at .ensures (λ u. getD place u 0) (once (getD (a .owner .now) (l .k - 1) 0))) ∙ c .if1 .left))
 
 returns-2 : tie.Need-returns-2 Inv-loop μ-loop
 returns-2 c =
+    let l = c .before .loop in
     let a = c .before .before .args in
-    sym (c .before .loop .inv .1 ∙ all-end (c .before .loop .k) (test (a .t1) (a .claim .now) (a .standing .now) (a .t)) (omega arith))
+    λ place once. sym (l .inv .1 place once ∙ all-end (l .k) (test (a .owner .now) (a .order .now) place (a .taken .now) (a .claim .now) (a .standing .now) (a .t)) (omega arith))
 
 pub all-granted-spec : {M : Type 1} → statement M
 all-granted-spec =
@@ -83,7 +81,6 @@ all-granted-spec =
     (tie.spec
     Inv-loop
     μ-loop
-    cast-k
     loop-holds
     sub-k
     element-copy-out-n

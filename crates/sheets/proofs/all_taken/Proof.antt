@@ -8,7 +8,6 @@ use lib.ListN.{getD}
 use lib.Dec.{ltb}
 use Rattle.rules.specs.Table.{all}
 use Rattle.rules.specs.State.{claims}
-use Rattle.state.specs.declared.Control.{Control}
 use Rattle.state.specs.View.{claim-in, set?}
 use Rattle.state.proofs.Tables.{all-here, all-down, all-end}
 use Rattle.state.proofs.Codes.{claims-code}
@@ -17,27 +16,24 @@ use borrow.Author.Needs.{needs}
 use Rattle.sheets.proofs.all_taken.Statement.{statement}
 use Rattle.sheets.proofs.all_taken.Tie as tie
 
-abbrev test : Control → (claim : List ℕ) → (t k : ℕ) → Bool
-test d claim t k = not (claims (claim-in claim t k)) || ltb (getD (d .place) t 0) (getD (d .taken) (getD (d .owner) k 0) 0)
+abbrev test : (owner place taken claim : List ℕ) → (t k : ℕ) → Bool
+test owner place taken claim t k = not (claims (claim-in claim t k)) || ltb (getD place t 0) (getD taken (getD owner k 0) 0)
 
-test-is : (d : Control) (claim : List ℕ) (t k : ℕ) → k < 64
-    → test d claim t k ≡ (not (set? (getD claim (t * 64 + k) 0)) || ltb (getD (d .place) t 0) (getD (d .taken) (getD (d .owner) k 0) 0))
-test-is d claim t k h = rw (flat-in claim t k h, claims-code (getD claim (t * 64 + k) 0))
+test-is : (owner place taken claim : List ℕ) (t k : ℕ) → k < 64
+    → test owner place taken claim t k ≡ (not (set? (getD claim (t * 64 + k) 0)) || ltb (getD place t 0) (getD taken (getD owner k 0) 0))
+test-is owner place taken claim t k h = rw (flat-in claim t k h, claims-code (getD claim (t * 64 + k) 0))
 
 abbrev Inv-loop : tie.InvT-loop
-Inv-loop claim t d ti p k₀ k = (k ≤ 64) × (all (d .sheets) (test d claim t) ≡ all k (test d claim t))
+Inv-loop sheets owner place taken claim t ti p k₀ k = (k ≤ 64) × (all sheets (test owner place taken claim t) ≡ all k (test owner place taken claim t))
 
 abbrev μ-loop : tie.MeasureT-loop
-μ-loop claim t d ti p k₀ k = k
+μ-loop sheets owner place taken claim t ti p k₀ k = k
 
 element-copy-out-p : tie.Need-element-copy-out-p Inv-loop μ-loop
 element-copy-out-p c = search needs
 
-cast-k : tie.Need-cast-k Inv-loop μ-loop
-cast-k c = search needs
-
 loop-holds : tie.Need-loop-holds Inv-loop μ-loop
-loop-holds c = (c .before .pre .0 .sheets64, refl)
+loop-holds c = (c .before .pre .0, refl)
 
 sub-k : tie.Need-sub-k Inv-loop μ-loop
 sub-k c = search needs
@@ -46,10 +42,10 @@ element-copy-out-o : tie.Need-element-copy-out-o Inv-loop μ-loop
 element-copy-out-o c = search needs
 
 cast-o : tie.Need-cast-o Inv-loop μ-loop
-cast-o c = search needs
+cast-o c = omega (arith, c .before .before .before .before .pre .1 (c .before .before .loop .k - 1))
 
 element-copy-out-m : tie.Need-element-copy-out-m Inv-loop μ-loop
-element-copy-out-m c = omega (arith, c .before .before .before .before .pre .0 .owners (c .before .before .loop .k - 1))
+element-copy-out-m c = omega (arith, c .before .before .before .before .pre .1 (c .before .before .loop .k - 1))
 
 mul-c : tie.Need-mul-c Inv-loop μ-loop
 mul-c c = search needs
@@ -71,21 +67,22 @@ loop-again c =
     let l = c .before .before .before .before .before .before .loop in
     let a = c .before .before .before .before .before .before .before .before .args in (
       omega arith,
-      l .inv .1 ∙ all-down (l .k) (test (a .t1) (a .claim .now) (a .t)) (c .before .before .before .before .before .loop-test .taken)
-          (test-is (a .t1) (a .claim .now) (a .t) (l .k - 1) (omega arith) ∙ sym (c .before .taken-at .ensures) ∙ c .if1 .taken),
+      l .inv .1 ∙ all-down (l .k) (test (a .owner .now) (a .place .now) (a .taken .now) (a .claim .now) (a .t)) (c .before .before .before .before .before .loop-test .taken)
+          (test-is (a .owner .now) (a .place .now) (a .taken .now) (a .claim .now) (a .t) (l .k - 1) (omega arith) ∙ sym (c .before .taken-at .ensures) ∙ c .if1 .taken),
     )
 
 returns : tie.Need-returns Inv-loop μ-loop
 returns c =
     let l = c .before .before .before .before .before .before .loop in
     let a = c .before .before .before .before .before .before .before .before .args in
-    sym (l .inv .1 ∙ all-here (l .k) (test (a .t1) (a .claim .now) (a .t)) (c .before .before .before .before .before .loop-test .taken)
-    (test-is (a .t1) (a .claim .now) (a .t) (l .k - 1) (omega arith) ∙ sym (c .before .taken-at .ensures) ∙ c .if1 .left))
+    sym (l .inv .1 ∙ all-here (l .k) (test (a .owner .now) (a .place .now) (a .taken .now) (a .claim .now) (a .t)) (c .before .before .before .before .before .loop-test .taken)
+    (test-is (a .owner .now) (a .place .now) (a .taken .now) (a .claim .now) (a .t) (l .k - 1) (omega arith) ∙ sym (c .before .taken-at .ensures) ∙ c .if1 .left))
 
 returns-2 : tie.Need-returns-2 Inv-loop μ-loop
 returns-2 c =
+    let l = c .before .loop in
     let a = c .before .before .before .args in
-    sym (c .before .loop .inv .1 ∙ all-end (c .before .loop .k) (test (a .t1) (a .claim .now) (a .t)) (omega arith))
+    sym (l .inv .1 ∙ all-end (l .k) (test (a .owner .now) (a .place .now) (a .taken .now) (a .claim .now) (a .t)) (omega arith))
 
 pub all-taken-spec : {M : Type 1} → statement M
 all-taken-spec =
@@ -94,7 +91,6 @@ all-taken-spec =
     Inv-loop
     μ-loop
     element-copy-out-p
-    cast-k
     loop-holds
     sub-k
     element-copy-out-o

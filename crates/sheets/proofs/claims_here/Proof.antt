@@ -23,16 +23,13 @@ test-is : (owner claim : List ℕ) (n t k : ℕ) → k < 64 → test owner claim
 test-is owner claim n t k h = rw (flat-in claim t k h, claims-code (getD claim (t * 64 + k) 0))
 
 abbrev Inv-loop : tie.InvT-loop
-Inv-loop claim n t d ti k₀ k = (k ≤ 64) × (any (d .sheets) (test (d .owner) claim n t) ≡ any k (test (d .owner) claim n t))
+Inv-loop sheets owner claim n t ti k₀ k = (k ≤ 64) × (any sheets (test owner claim n t) ≡ any k (test owner claim n t))
 
 abbrev μ-loop : tie.MeasureT-loop
-μ-loop claim n t d ti k₀ k = k
-
-cast-k : tie.Need-cast-k Inv-loop μ-loop
-cast-k c = search needs
+μ-loop sheets owner claim n t ti k₀ k = k
 
 loop-holds : tie.Need-loop-holds Inv-loop μ-loop
-loop-holds c = (c .pre .0 .sheets64, refl)
+loop-holds c = (c .pre .0, refl)
 
 sub-k : tie.Need-sub-k Inv-loop μ-loop
 sub-k c = search needs
@@ -56,8 +53,8 @@ returns : tie.Need-returns Inv-loop μ-loop
 returns c =
     let l = c .before .before .before .before .before .loop in
     let a = c .before .before .before .before .before .before .args in
-    sym (l .inv .1 ∙ any-here (l .k) (test (a .t1 .owner) (a .claim .now) (a .n) (a .t)) (c .before .before .before .before .loop-test .taken)
-    (test-is (a .t1 .owner) (a .claim .now) (a .n) (a .t) (l .k - 1) (omega arith) ∙ sym (c .before .claimed-here .ensures) ∙ c .if1 .taken))
+    sym (l .inv .1 ∙ any-here (l .k) (test (a .owner .now) (a .claim .now) (a .n) (a .t)) (c .before .before .before .before .loop-test .taken)
+    (test-is (a .owner .now) (a .claim .now) (a .n) (a .t) (l .k - 1) (omega arith) ∙ sym (c .before .claimed-here .ensures) ∙ c .if1 .taken))
 
 loop-less : tie.Need-loop-less Inv-loop μ-loop
 loop-less c = search needs
@@ -67,14 +64,15 @@ loop-again c =
     let l = c .before .before .before .before .before .loop in
     let a = c .before .before .before .before .before .before .args in (
       omega arith,
-      l .inv .1 ∙ any-down (l .k) (test (a .t1 .owner) (a .claim .now) (a .n) (a .t)) (c .before .before .before .before .loop-test .taken)
-          (test-is (a .t1 .owner) (a .claim .now) (a .n) (a .t) (l .k - 1) (omega arith) ∙ sym (c .before .claimed-here .ensures) ∙ c .if1 .left),
+      l .inv .1 ∙ any-down (l .k) (test (a .owner .now) (a .claim .now) (a .n) (a .t)) (c .before .before .before .before .loop-test .taken)
+          (test-is (a .owner .now) (a .claim .now) (a .n) (a .t) (l .k - 1) (omega arith) ∙ sym (c .before .claimed-here .ensures) ∙ c .if1 .left),
     )
 
 returns-2 : tie.Need-returns-2 Inv-loop μ-loop
 returns-2 c =
+    let l = c .before .loop in
     let a = c .before .before .args in
-    sym (c .before .loop .inv .1 ∙ any-end (c .before .loop .k) (test (a .t1 .owner) (a .claim .now) (a .n) (a .t)) (omega arith))
+    sym (l .inv .1 ∙ any-end (l .k) (test (a .owner .now) (a .claim .now) (a .n) (a .t)) (omega arith))
 
 pub claims-here-spec : {M : Type 1} → statement M
 claims-here-spec =
@@ -82,7 +80,6 @@ claims-here-spec =
     (tie.spec
     Inv-loop
     μ-loop
-    cast-k
     loop-holds
     sub-k
     element-copy-out-o

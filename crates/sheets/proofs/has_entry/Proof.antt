@@ -10,34 +10,29 @@ element-copy-out-upto : tie.Need-element-copy-out-upto
 element-copy-out-upto c = search needs
 
 cast-upto : tie.Need-cast-upto
-cast-upto c = search needs
+cast-upto c = omega (arith, c .before .pre .0 .takens (c .before .args .n))
 
 element-copy-out-q : tie.Need-element-copy-out-q
 element-copy-out-q c = search needs
 
-cast-q : tie.Need-cast-q
-cast-q c = search needs
-
 stands-requires : tie.Need-stands-requires
-stands-requires c κs =
-    let s = c .before .before .before .before in
-    let z = s .pre .0 .takens (s .args .n) in
-    (s .pre .1, s .pre .2, omega (arith, s .pre .0 .shaped .fits))
+stands-requires c κs = (c .before .before .pre .2, c .before .before .pre .3, c .before .before .pre .0 .takens (c .before .before .args .n))
 
 claims-here-requires : tie.Need-claims-here-requires
-claims-here-requires c κs = search needs
+claims-here-requires c κs = (c .before .before .before .before .pre .0 .sheets64, c .before .before .before .before .pre .3)
 
 returns : tie.Need-returns
 returns c =
-    let s = c .before .before .before .before .before .before .before in
+    let s = c .before .before .before .before .before in
     let a = s .args in
-    c .claims-here .ensures ∙ sym (entry-some (a .t1) (a .claim .now) (a .standing .now) (a .n) (a .t) (s .pre .0) (sym (c .before .before .stands .ensures) ∙ c .before .if1 .taken))
+    c .claims-here .ensures
+    ∙ sym (entry-some (a .sheets) (a .owner .now) (a .order .now) (a .place .now) (a .taken .now) (a .claim .now) (a .standing .now) (a .n) (a .t) (s .pre .1) (sym (c .before .before .stands .ensures) ∙ c .before .if1 .taken))
 
 returns-2 : tie.Need-returns-2
 returns-2 c =
-    let s = c .before .before .before .before .before .before in
+    let s = c .before .before .before .before in
     let a = s .args in
-    sym (entry-none (a .t1) (a .claim .now) (a .standing .now) (a .n) (a .t) (s .pre .0) (sym (c .before .stands .ensures) ∙ c .if1 .left))
+    sym (entry-none (a .sheets) (a .owner .now) (a .order .now) (a .place .now) (a .taken .now) (a .claim .now) (a .standing .now) (a .n) (a .t) (s .pre .1) (sym (c .before .stands .ensures) ∙ c .if1 .left))
 
 pub has-entry-spec : {M : Type 1} → statement M
 has-entry-spec =
@@ -46,7 +41,6 @@ has-entry-spec =
     element-copy-out-upto
     cast-upto
     element-copy-out-q
-    cast-q
     stands-requires
     claims-here-requires
     returns
