@@ -10,7 +10,7 @@ use borrow.Author.Tests.{lt-ltb, le-ltb, eqb-true}
 use lib.Dec.{eqb}
 use lib.ListN.{length, getD, take, drop, length-drop}
 use lib.Seq.{take-all, getD-drop}
-use Rattle.rules.specs.Bytes.{Form, unknown, cut, whole, Command, Begin, form-of, commands, widths, values, big-endian, front-by, front}
+use Rattle.rules.specs.Bytes.{Form, Front, unknown, cut, whole, Command, Begin, form-of, commands, widths, values, big-endian, front-by, front}
 use Rattle.rules.proofs.Table.{bool}
 use Rattle.wire.specs.Meaning.{front-in, width-of, operand-bytes, contents}
 
@@ -130,7 +130,7 @@ module _ (b : ℕ) (bs : List ℕ) where
   front-cut h = cut-by (form-of b commands) bs h
 
   -- for a number k of the table the command computes
-  pub front-whole : (k : ℕ) → b ≡ k → (0 < operand-bytes b) × (operand-bytes b ≤ length bs) → front b bs ≡ whole (command-by (form-of k commands) bs) (operand-bytes b)
+  pub front-whole : (k : ℕ) → b ≡ k → (0 < operand-bytes b) × (operand-bytes b ≤ length bs) → front b bs ≡ whole (command-by (form-of k commands) bs) (width-of (form-of k commands))
   unfolding operand-bytes
   front-whole k e h = rw (← e) (whole-by (form-of b commands) bs (h .0) (h .1))
 
@@ -149,5 +149,5 @@ module _ (s : List ℕ) (w : ℕ) (n : length s ≡ 0 → ⊥) (is : w ≡ opera
       let l : length (drop 1 s) < operand-bytes (getD s 0 0) = rw length-drop (omega arith) in
       rw (front-some s n, front-cut (getD s 0 0) (drop 1 s) l)
 
-  pub rest-whole : (c : Command) → whole c (operand-bytes (getD s 0 0)) ≡ front (getD s 0 0) (take (length s - 1) (drop 1 s)) → some (whole c w) ≡ front-in s
-  rest-whole c e = rw (front-some s n, ← rest s 1, ← e, is)
+pub rest-whole : (s : List ℕ) (f : Option Front) → (length s ≡ 0 → ⊥) → f ≡ some (front (getD s 0 0) (take (length s - 1) (drop 1 s))) → f ≡ front-in s
+rest-whole s f n e = e ∙ rw (front-some s n, rest s 1)

@@ -1,11 +1,12 @@
 // A session's bytes: the command type, the reader that finds commands, and the header.
 ghost use mathlib.Core.Path.{_≡_};
 ghost use Prim.Native.Nat.{_<_, _≤_};
+ghost use mathlib.Core.Option.{some};
 ghost use lib.ListN.{length};
 ghost use lib.Dec.{ltb};
 ghost use Rattle.rules.specs.Table.{all};
 ghost use Rattle.rules.specs.Bytes as rules;
-ghost use Rattle.wire.specs.Meaning.{command-of, front-of, front-in, operand-bytes, contents, write-of, opened, owners-of};
+ghost use Rattle.wire.specs.Meaning.{front-of, front-in, operand-bytes, contents, write-of, opened, owners-of};
 
 // Sizes of one session, as the header states or obeys them.
 const MAX_SESSION: usize = 16384;
@@ -73,20 +74,20 @@ fn write(s: &[u8]) -> Command
     Command::Write(s[0], s[1], content(s[2], s[3], s[4], s[5]))
 }
 
-// The command of a command byte with its operands behind it.
-fn decoded(b: u8, s: &[u8]) -> Command
+// The command of a command byte with its operands behind it. Each arm names its width: a table's answer would be waited for at every command.
+fn decoded(b: u8, s: &[u8]) -> Next
     requires { ⌜ (0 < operand-bytes b) × (operand-bytes b ≤ length (now s)) ⌝ }
-    ensures { λ r. ⌜ rules.whole (command-of r) (operand-bytes b) ≡ rules.front b (now (s .entry)) ⌝ }
+    ensures { λ r. ⌜ front-of r ≡ some (rules.front b (now (s .entry))) ⌝ }
 {
     match b {
-        1 => Command::Begin(s[0]),
-        2 => Command::Read(s[0], s[1]),
-        3 => write(s),
-        4 => Command::Submit(s[0]),
-        5 => Command::Take(s[0]),
-        6 => Command::Decide(s[0]),
-        7 => Command::Apply(s[0], s[1]),
-        _ => Command::GiveUp(s[0]),
+        1 => Next::Step(Command::Begin(s[0]), 1),
+        2 => Next::Step(Command::Read(s[0], s[1]), 2),
+        3 => Next::Step(write(s), 6),
+        4 => Next::Step(Command::Submit(s[0]), 1),
+        5 => Next::Step(Command::Take(s[0]), 1),
+        6 => Next::Step(Command::Decide(s[0]), 1),
+        7 => Next::Step(Command::Apply(s[0], s[1]), 2),
+        _ => Next::Step(Command::GiveUp(s[0]), 1),
     }
 }
 
@@ -105,7 +106,7 @@ pub fn read_next(rest: &[u8]) -> Next
     if rest.len() <= w {
         return Next::Cut;
     }
-    Next::Step(decoded(b, &rest[1..]), w)
+    decoded(b, &rest[1..])
 }
 
 // A byte of the session, 0 beyond its end.

@@ -10,12 +10,12 @@ use Rattle.wire.proofs.decoded.Tie as tie
 shared-slice-read-t5 : tie.Need-shared-slice-read-t5
 shared-slice-read-t5 c = search needs
 
-shared-slice-read-t7 : tie.Need-shared-slice-read-t7
-shared-slice-read-t7 c = search needs
+shared-slice-read-t8 : tie.Need-shared-slice-read-t8
+shared-slice-read-t8 c = search needs
 
-shared-slice-read-t9 : tie.Need-shared-slice-read-t9
+shared-slice-read-t10 : tie.Need-shared-slice-read-t10
 unfolding operand-bytes
-shared-slice-read-t9 c =
+shared-slice-read-t10 c =
     let w : operand-bytes (c .before .before .before .before .args .b) ≡ 2 = ap operand-bytes (c .before .before .match .keys2) in
     omega arith
 
@@ -25,26 +25,26 @@ write-requires c κs =
     let w : operand-bytes (c .before .before .args .b) ≡ 6 = ap operand-bytes (c .match .keys3) in
     omega arith
 
-shared-slice-read-t11 : tie.Need-shared-slice-read-t11
-shared-slice-read-t11 c = search needs
-
-shared-slice-read-t13 : tie.Need-shared-slice-read-t13
-shared-slice-read-t13 c = search needs
-
-shared-slice-read-t15 : tie.Need-shared-slice-read-t15
-shared-slice-read-t15 c = search needs
+shared-slice-read-t14 : tie.Need-shared-slice-read-t14
+shared-slice-read-t14 c = search needs
 
 shared-slice-read-t17 : tie.Need-shared-slice-read-t17
 shared-slice-read-t17 c = search needs
 
-shared-slice-read-t19 : tie.Need-shared-slice-read-t19
+shared-slice-read-t20 : tie.Need-shared-slice-read-t20
+shared-slice-read-t20 c = search needs
+
+shared-slice-read-t23 : tie.Need-shared-slice-read-t23
+shared-slice-read-t23 c = search needs
+
+shared-slice-read-t25 : tie.Need-shared-slice-read-t25
 unfolding operand-bytes
-shared-slice-read-t19 c =
+shared-slice-read-t25 c =
     let w : operand-bytes (c .before .before .before .before .args .b) ≡ 2 = ap operand-bytes (c .before .before .match .keys7) in
     omega arith
 
-shared-slice-read-t21 : tie.Need-shared-slice-read-t21
-shared-slice-read-t21 c = search needs
+shared-slice-read-t28 : tie.Need-shared-slice-read-t28
+shared-slice-read-t28 c = search needs
 
 returns : tie.Need-returns
 returns c = rw (front-whole _ _ 1 (c .before .match .keys1) (c .before .before .before .pre), first-byte)
@@ -81,15 +81,15 @@ decoded-spec =
     tie.close
     (tie.spec
     shared-slice-read-t5
-    shared-slice-read-t7
-    shared-slice-read-t9
+    shared-slice-read-t8
+    shared-slice-read-t10
     write-requires
-    shared-slice-read-t11
-    shared-slice-read-t13
-    shared-slice-read-t15
+    shared-slice-read-t14
     shared-slice-read-t17
-    shared-slice-read-t19
-    shared-slice-read-t21
+    shared-slice-read-t20
+    shared-slice-read-t23
+    shared-slice-read-t25
+    shared-slice-read-t28
     returns
     returns-2
     returns-3

@@ -36,7 +36,7 @@ decoded-requires c κs =
     (omega arith, rw (rest, length-drop) (omega arith))
 
 returns-4 : tie.Need-returns-4
-returns-4 c = rest-whole (c .before .before .before .before .before .before .before .before .args .rest .now) _ (c .before .before .before .before .before .before .if1 .left) (c .before .before .before .before .operands .ensures) _ (c .decoded .ensures)
+returns-4 c = rest-whole (c .before .before .before .before .before .before .before .before .args .rest .now) _ (c .before .before .before .before .before .before .if1 .left) (c .decoded .ensures)
 
 pub read-next-spec : {M : Type 1} → statement M
 read-next-spec =
