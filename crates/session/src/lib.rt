@@ -1,9 +1,11 @@
 // The run over a whole session.
 ghost use mathlib.Core.Path.{_≡_};
-ghost use Rattle.wire.specs.Meaning.{opened};
-ghost use Rattle.state.specs.View.{control};
+ghost use Rattle.rules.specs.State.{fresh};
+ghost use Rattle.wire.specs.Meaning.{opened, owners-of};
+ghost use Rattle.state.specs.View.{control, header-of, no-tally};
 ghost use Rattle.wire.specs.declared.Opened.the-variants.{Header};
 ghost use Rattle.session.specs.Meaning.{refusal-in, reply-to};
+ghost use Rattle.session.specs.Looping.{arrays, shows, Sizes};
 ghost use Rattle.session.specs.Carried.{Carried};
 use state::Answer;
 use state::Control;
@@ -109,13 +111,106 @@ fn closed(
     }
 }
 
+// What the walk over a session's commands comes to, beside the arrays.
+pub struct Walked {
+    pub placed: u8,
+    pub tally: Tally,
+    pub last: Reply,
+    pub stop: Stop,
+}
+
+fn halted(placed: u8, tally: Tally, last: Reply, stop: Stop) -> Walked
+    ensures { λ r. ⌜ r ≡ record { placed = placed; tally = tally; last = last; stop = stop } ⌝ }
+{
+    Walked {
+        placed: placed,
+        tally: tally,
+        last: last,
+        stop: stop,
+    }
+}
+
+// Carries fresh arrays through a session with this header, to its end or its first refusal.
+fn walk(
+    session: &[u8],
+    nodes: u8,
+    sheets: u8,
+    owner: &[u8; Session::SHEETS],
+    phase: &mut [u8; Session::SAVES],
+    failed: &mut [u8; Session::SAVES],
+    runs: &mut [u8; Session::SAVES],
+    order: &mut [u8; Session::SAVES],
+    place: &mut [u8; Session::SAVES],
+    taken: &mut [u8; Session::NODES],
+    value: &mut [u32; Session::COPIES],
+    seen: &mut [u32; Session::COPIES],
+    mark: &mut [u8; Session::COPIES],
+    claim: &mut [u8; Session::COPIES],
+    standing: &mut [u8; Session::STANDING],
+    content: &mut [u32; Session::SHEETS],
+    wct: &mut [u32; Session::SHEETS],
+) -> Walked
+    requires { ⌜ (Header nodes sheets ≡ opened (now session)) × Sizes (arrays (control nodes sheets 0 (now owner) (now phase) (now failed) (now runs) (now order) (now place) (now taken)) (now value) (now seen) (now mark) (now claim) (now standing) (now content) (now wct)) × (shows (arrays (control nodes sheets 0 (now owner) (now phase) (now failed) (now runs) (now order) (now place) (now taken)) (now value) (now seen) (now mark) (now claim) (now standing) (now content) (now wct)) no-tally ≡ fresh (header-of nodes sheets (owners-of (now session)))) ⌝ }
+    ensures { λ r. ⌜ Carried (now (session .entry)) (record { control = control nodes sheets (r .placed) (now (owner .entry)) (now (phase .exit)) (now (failed .exit)) (now (runs .exit)) (now (order .exit)) (now (place .exit)) (now (taken .exit)); content = now (content .exit); wct = now (wct .exit); tally = r .tally; last = r .last; stop = r .stop }) ⌝ }
+{
+    let mut placed: u8 = 0;
+    let mut tally = Tally::new();
+    let mut last = Reply::NoCommand;
+    let mut at: usize = 2 + sheets as usize;
+    while at < session.len() {
+        let next = wire::read_next(&session[at..]);
+        match next {
+            Next::Step(c, w) => {
+                let r = engine::step(
+                    nodes,
+                    sheets,
+                    placed,
+                    owner,
+                    phase,
+                    failed,
+                    runs,
+                    order,
+                    place,
+                    taken,
+                    value,
+                    seen,
+                    mark,
+                    claim,
+                    standing,
+                    content,
+                    wct,
+                    c,
+                );
+                let a = r.answer;
+                placed = r.placed;
+                let n = refusal(a);
+                if n != 0 {
+                    return halted(placed, tally, last, Stop::Refused(at, n, 1 + w));
+                }
+                let t = tally.advanced(a);
+                tally = t;
+                last = told(a);
+                at = at + 1 + w;
+            }
+            Next::Unknown => return halted(placed, tally, last, Stop::Refused(at, 2, 1)),
+            Next::Cut => return halted(
+                placed,
+                tally,
+                last,
+                Stop::Refused(at, 3, session.len() - at),
+            ),
+            Next::End => return halted(placed, tally, last, Stop::End),
+        }
+    }
+    halted(placed, tally, last, Stop::End)
+}
+
 // Carries a session with this header through to its end or its first refusal. The arrays live here, and are lent to each step.
 pub fn run(session: &[u8], nodes: u8, sheets: u8) -> Ended
     requires { ⌜ Header nodes sheets ≡ opened (now session) ⌝ }
     ensures { λ r. ⌜ Carried (now (session .entry)) r ⌝ }
 {
     let owner = wire::owners(session);
-    let mut placed: u8 = 0;
     let mut phase: [u8; Session::SAVES] = [0; Session::SAVES];
     let mut failed: [u8; Session::SAVES] = [0; Session::SAVES];
     let mut runs: [u8; Session::SAVES] = [0; Session::SAVES];
@@ -129,117 +224,31 @@ pub fn run(session: &[u8], nodes: u8, sheets: u8) -> Ended
     let mut standing: [u8; Session::STANDING] = [0; Session::STANDING];
     let mut content: [u32; Session::SHEETS] = [0; Session::SHEETS];
     let mut wct: [u32; Session::SHEETS] = [0; Session::SHEETS];
-    let mut tally = Tally::new();
-    let mut last = Reply::NoCommand;
-    let mut at: usize = 2 + sheets as usize;
-    while at < session.len() {
-        let next = wire::read_next(&session[at..]);
-        match next {
-            Next::Step(c, w) => {
-                let r = engine::step(
-                    nodes,
-                    sheets,
-                    placed,
-                    &owner,
-                    &mut phase,
-                    &mut failed,
-                    &mut runs,
-                    &mut order,
-                    &mut place,
-                    &mut taken,
-                    &mut value,
-                    &mut seen,
-                    &mut mark,
-                    &mut claim,
-                    &mut standing,
-                    &mut content,
-                    &mut wct,
-                    c,
-                );
-                let a = r.answer;
-                placed = r.placed;
-                let n = refusal(a);
-                if n != 0 {
-                    return closed(
-                        nodes,
-                        sheets,
-                        placed,
-                        owner,
-                        phase,
-                        failed,
-                        runs,
-                        order,
-                        place,
-                        taken,
-                        content,
-                        wct,
-                        tally,
-                        last,
-                        Stop::Refused(at, n, 1 + w),
-                    );
-                }
-                let t = tally.advanced(a);
-                tally = t;
-                last = told(a);
-                at = at + 1 + w;
-            }
-            Next::Unknown => return closed(
-                nodes,
-                sheets,
-                placed,
-                owner,
-                phase,
-                failed,
-                runs,
-                order,
-                place,
-                taken,
-                content,
-                wct,
-                tally,
-                last,
-                Stop::Refused(at, 2, 1),
-            ),
-            Next::Cut => return closed(
-                nodes,
-                sheets,
-                placed,
-                owner,
-                phase,
-                failed,
-                runs,
-                order,
-                place,
-                taken,
-                content,
-                wct,
-                tally,
-                last,
-                Stop::Refused(at, 3, session.len() - at),
-            ),
-            Next::End => return closed(
-                nodes,
-                sheets,
-                placed,
-                owner,
-                phase,
-                failed,
-                runs,
-                order,
-                place,
-                taken,
-                content,
-                wct,
-                tally,
-                last,
-                Stop::End,
-            ),
-        }
-    }
+    let w = walk(
+        session,
+        nodes,
+        sheets,
+        &owner,
+        &mut phase,
+        &mut failed,
+        &mut runs,
+        &mut order,
+        &mut place,
+        &mut taken,
+        &mut value,
+        &mut seen,
+        &mut mark,
+        &mut claim,
+        &mut standing,
+        &mut content,
+        &mut wct,
+    );
+    let last = w.last;
+    let stop = w.stop;
     closed(
         nodes,
         sheets,
-        placed,
+        w.placed,
         owner,
         phase,
         failed,
@@ -249,8 +258,8 @@ pub fn run(session: &[u8], nodes: u8, sheets: u8) -> Ended
         taken,
         content,
         wct,
-        tally,
+        w.tally,
         last,
-        Stop::End,
+        stop,
     )
 }

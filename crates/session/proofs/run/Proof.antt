@@ -1,241 +1,30 @@
--- The arrays are lent to each step; what is known of them is `Looping`, and each need is one law of `Needs`.
-use Prim.Native.Nat.{ℕ, _-_}
-use mathlib.Core.Path.{_≡_, refl, sym, _∙_}
+-- Arrays of zeros show the fresh state, and the walk carries them through.
+use mathlib.Core.Path.{refl, _∙_}
 use native.Mathlib.Omega.{arith}
-use lib.ListN.{length}
-use Rattle.tally.specs.Figures.{figures}
-use Rattle.state.specs.View.{control, no-tally}
 use Rattle.state.proofs.Fresh.{fresh-zeros}
-use Rattle.session.specs.Looping.{arrays, Sizes, Looping}
-use Rattle.session.proofs.Needs.{opening, starts, ready, room, fits, goes-on, stops, at-unknown, at-cut, at-end, done}
 use borrow.Author.Needs.{needs}
 use Rattle.session.proofs.run.Statement.{statement}
 use Rattle.session.proofs.run.Tie as tie
 
-abbrev Inv-loop : tie.InvT-loop
-Inv-loop session nodes sheets owner placed₀ phase₀ failed₀ runs₀ order₀ place₀ taken₀ value₀ seen₀ mark₀ claim₀ standing₀ content₀ wct₀ tally₀ last₀ at₀ placed phase failed runs order place taken value seen mark claim standing content wct tally last at =
-    Looping session (arrays (control nodes sheets placed owner phase failed runs order place taken) value seen mark claim standing content wct) tally last at
-
-abbrev μ-loop : tie.MeasureT-loop
-μ-loop session nodes sheets owner placed₀ phase₀ failed₀ runs₀ order₀ place₀ taken₀ value₀ seen₀ mark₀ claim₀ standing₀ content₀ wct₀ tally₀ last₀ at₀ placed phase failed runs order place taken value seen mark claim standing content wct tally last at =
-    length session - at
-
-owners-requires : tie.Need-owners-requires Inv-loop μ-loop
+owners-requires : tie.Need-owners-requires
 owners-requires c κs = search needs
 
-new-requires : tie.Need-new-requires Inv-loop μ-loop
-new-requires c κs = search needs
+walk-requires : tie.Need-walk-requires
+walk-requires c κs =
+    let a = c .before .before .before .before .before .before .before .before .before .before .before .before .before .before .before .before .args in (
+      c .before .before .before .before .before .before .before .before .before .before .before .before .before .before .before .before .pre,
+      record {
+        shaped = record { owner = search needs; phase = refl; failed = refl; runs = refl; order = refl; place = refl; taken = refl; fits = omega arith };
+        sized = record { value = refl; seen = refl; mark = refl; claim = refl; standing = refl; content = refl; wct = refl };
+      },
+      fresh-zeros (a .nodes) (a .sheets) (c .before .before .before .before .before .before .before .before .before .before .before .before .before .before .owners .result) ∙ rw (c .before .before .before .before .before .before .before .before .before .before .before .before .before .before .owners .ensures),
+    )
 
-add-at : tie.Need-add-at Inv-loop μ-loop
-add-at c = search needs
-
-loop-holds : tie.Need-loop-holds Inv-loop μ-loop
-loop-holds c =
-    let a = c .before .before .before .args in
-    let t : figures (c .new .result) ≡ no-tally = (λ i. record { accepted = c .new .ensures .0 i; from-first = c .new .ensures .1 i; from-second = c .new .ensures .2 i }) in
-    starts _ _ _ (opening (a .session .now) (a .nodes) (a .sheets) (c .before .before .before .pre)) _ _ (fresh-zeros (a .nodes) (a .sheets) (c .before .owners .result) ∙ rw (c .before .owners .ensures)) t
-    (record {
-      shaped = record { owner = search needs; phase = refl; failed = refl; runs = refl; order = refl; place = refl; taken = refl; fits = omega arith };
-      sized = record { value = refl; seen = refl; mark = refl; claim = refl; standing = refl; content = refl; wct = refl };
-    })
-
-sub-read-next : tie.Need-sub-read-next Inv-loop μ-loop
-sub-read-next c = search needs
-
-part-read-next-start : tie.Need-part-read-next-start Inv-loop μ-loop
-part-read-next-start c = search needs
-
-part-read-next-end : tie.Need-part-read-next-end Inv-loop μ-loop
-part-read-next-end c = search needs
-
-read-next-requires : tie.Need-read-next-requires Inv-loop μ-loop
-read-next-requires c κs = search needs
-
-enum-known-next : tie.Need-enum-known-next Inv-loop μ-loop
-enum-known-next c = search needs
-
-step-requires : tie.Need-step-requires Inv-loop μ-loop
-step-requires c κs =
-    let l = c .before .before .before .before .before .before .before .before .before .before .before .before .before .before .before .before .before .before .before .before .loop in
-    let s = c .before .before .before .before .before .before .before .before .before .before .before .before .before .before .before .before .before .before .before .before .before .before .before .before in
-    let o = opening (s .args .session .now) (s .args .nodes) (s .args .sheets) (s .pre) .opened-well in
-    let x = arrays (control (s .args .nodes) (s .args .sheets) (l .placed) (c .before .before .before .before .before .before .before .before .before .before .before .before .before .before .before .before .before .before .before .before .before .before .owners .result) (l .phase) (l .failed) (l .runs) (l .order) (l .place) (l .taken)) (l .value) (l .seen) (l .mark) (l .claim) (l .standing) (l .content) (l .wct) in
-    ready (s .args .session .now) o x (l .tally) (l .last) (l .at) (l .inv)
-
-refusal-requires : tie.Need-refusal-requires Inv-loop μ-loop
-refusal-requires c κs = search needs
-
-add-t60 : tie.Need-add-t60 Inv-loop μ-loop
-add-t60 c =
-    let l = c .before .before .before .before .before .before .before .before .before .before .before .before .before .before .before .before .before .before .before .before .before .before .before .loop in
-    let s = c .before .before .before .before .before .before .before .before .before .before .before .before .before .before .before .before .before .before .before .before .before .before .before .before .before .before .before in
-    let o = opening (s .args .session .now) (s .args .nodes) (s .args .sheets) (s .pre) .opened-well in
-    let x = arrays (control (s .args .nodes) (s .args .sheets) (l .placed) (c .before .before .before .before .before .before .before .before .before .before .before .before .before .before .before .before .before .before .before .before .before .before .before .before .before .owners .result) (l .phase) (l .failed) (l .runs) (l .order) (l .place) (l .taken)) (l .value) (l .seen) (l .mark) (l .claim) (l .standing) (l .content) (l .wct) in
-    let n = c .before .before .before .before .before .before .before .before .before .before .before .before .before .before .before .before .before .before .next .given in
-    let h = fits (s .args .session .now) o x (l .tally) (l .last) (l .at) (l .inv) _ (c .before .before .before .before .before .before .before .before .before .before .before .before .before .before .before .before .before .before .before .before .read-next .ensures) _ _ (n .1) in
-    omega arith
-
-closed-requires : tie.Need-closed-requires Inv-loop μ-loop
+closed-requires : tie.Need-closed-requires
 closed-requires c κs = search needs
 
-returns : tie.Need-returns Inv-loop μ-loop
-returns c =
-    let l = c .before .before .before .before .before .before .before .before .before .before .before .before .before .before .before .before .before .before .before .before .before .before .before .before .loop in
-    let s = c .before .before .before .before .before .before .before .before .before .before .before .before .before .before .before .before .before .before .before .before .before .before .before .before .before .before .before .before in
-    let o = opening (s .args .session .now) (s .args .nodes) (s .args .sheets) (s .pre) .opened-well in
-    let x = arrays (control (s .args .nodes) (s .args .sheets) (l .placed) (c .before .before .before .before .before .before .before .before .before .before .before .before .before .before .before .before .before .before .before .before .before .before .before .before .before .before .owners .result) (l .phase) (l .failed) (l .runs) (l .order) (l .place) (l .taken)) (l .value) (l .seen) (l .mark) (l .claim) (l .standing) (l .content) (l .wct) in
-    let n = c .before .before .before .before .before .before .before .before .before .before .before .before .before .before .before .before .before .before .before .next .given in
-    let h = fits (s .args .session .now) o x (l .tally) (l .last) (l .at) (l .inv) _ (c .before .before .before .before .before .before .before .before .before .before .before .before .before .before .before .before .before .before .before .before .before .read-next .ensures) _ _ (n .1) in
-    let t = c .before .before .before .step in
-    let y = arrays (control (s .args .nodes) (s .args .sheets) (t .result .placed) (c .before .before .before .before .before .before .before .before .before .before .before .before .before .before .before .before .before .before .before .before .before .before .before .before .before .before .owners .result) (t .last .1 .1 .1 .1 .0) (t .last .1 .1 .1 .1 .1 .0) (t .last .1 .1 .1 .1 .1 .1 .0) (t .last .1 .1 .1 .1 .1 .1 .1 .0) (t .last .1 .1 .1 .1 .1 .1 .1 .1 .0) (t .last .1 .1 .1 .1 .1 .1 .1 .1 .1 .0)) (t .last .1 .1 .1 .1 .1 .1 .1 .1 .1 .1 .0) (t .last .1 .1 .1 .1 .1 .1 .1 .1 .1 .1 .1 .0) (t .last .1 .1 .1 .1 .1 .1 .1 .1 .1 .1 .1 .1 .0) (t .last .1 .1 .1 .1 .1 .1 .1 .1 .1 .1 .1 .1 .1 .0) (t .last .1 .1 .1 .1 .1 .1 .1 .1 .1 .1 .1 .1 .1 .1 .0) (t .last .1 .1 .1 .1 .1 .1 .1 .1 .1 .1 .1 .1 .1 .1 .1 .0) (t .last .1 .1 .1 .1 .1 .1 .1 .1 .1 .1 .1 .1 .1 .1 .1 .1 .0) in
-    let z : Sizes y = record { shaped = t .ensures .1 .1; sized = t .ensures .1 .0 } in
-    rw (c .closed .ensures, c .before .before .refusal .ensures) (stops (s .args .session .now) o x (l .tally) (l .last) (l .at) (l .inv) _ (c .before .before .before .before .before .before .before .before .before .before .before .before .before .before .before .before .before .before .before .before .before .read-next .ensures) _ _ (n .1) y _ (t .ensures .0) z (λ e. c .before .if1 .taken (c .before .before .refusal .ensures ∙ e)))
-
-advanced-requires : tie.Need-advanced-requires Inv-loop μ-loop
-advanced-requires c κs =
-    let l = c .before .before .before .before .before .before .before .before .before .before .before .before .before .before .before .before .before .before .before .before .before .before .before .loop in
-    let s = c .before .before .before .before .before .before .before .before .before .before .before .before .before .before .before .before .before .before .before .before .before .before .before .before .before .before .before in
-    let o = opening (s .args .session .now) (s .args .nodes) (s .args .sheets) (s .pre) .opened-well in
-    let x = arrays (control (s .args .nodes) (s .args .sheets) (l .placed) (c .before .before .before .before .before .before .before .before .before .before .before .before .before .before .before .before .before .before .before .before .before .before .before .before .before .owners .result) (l .phase) (l .failed) (l .runs) (l .order) (l .place) (l .taken)) (l .value) (l .seen) (l .mark) (l .claim) (l .standing) (l .content) (l .wct) in
-    room (s .args .session .now) o x (l .tally) (l .last) (l .at) (l .inv)
-
-told-requires : tie.Need-told-requires Inv-loop μ-loop
-told-requires c κs = search needs
-
-add-at-2 : tie.Need-add-at-2 Inv-loop μ-loop
-add-at-2 c =
-    let l = c .before .before .before .before .before .before .before .before .before .before .before .before .before .before .before .before .before .before .before .before .before .before .before .before .before .loop in
-    let s = c .before .before .before .before .before .before .before .before .before .before .before .before .before .before .before .before .before .before .before .before .before .before .before .before .before .before .before .before .before in
-    let o = opening (s .args .session .now) (s .args .nodes) (s .args .sheets) (s .pre) .opened-well in
-    let x = arrays (control (s .args .nodes) (s .args .sheets) (l .placed) (c .before .before .before .before .before .before .before .before .before .before .before .before .before .before .before .before .before .before .before .before .before .before .before .before .before .before .before .owners .result) (l .phase) (l .failed) (l .runs) (l .order) (l .place) (l .taken)) (l .value) (l .seen) (l .mark) (l .claim) (l .standing) (l .content) (l .wct) in
-    let n = c .before .before .before .before .before .before .before .before .before .before .before .before .before .before .before .before .before .before .before .before .next .given in
-    let h = fits (s .args .session .now) o x (l .tally) (l .last) (l .at) (l .inv) _ (c .before .before .before .before .before .before .before .before .before .before .before .before .before .before .before .before .before .before .before .before .before .before .read-next .ensures) _ _ (n .1) in
-    omega arith
-
-add-at-3 : tie.Need-add-at-3 Inv-loop μ-loop
-add-at-3 c =
-    let l = c .before .before .before .before .before .before .before .before .before .before .before .before .before .before .before .before .before .before .before .before .before .before .before .before .before .loop in
-    let s = c .before .before .before .before .before .before .before .before .before .before .before .before .before .before .before .before .before .before .before .before .before .before .before .before .before .before .before .before .before in
-    let o = opening (s .args .session .now) (s .args .nodes) (s .args .sheets) (s .pre) .opened-well in
-    let x = arrays (control (s .args .nodes) (s .args .sheets) (l .placed) (c .before .before .before .before .before .before .before .before .before .before .before .before .before .before .before .before .before .before .before .before .before .before .before .before .before .before .before .owners .result) (l .phase) (l .failed) (l .runs) (l .order) (l .place) (l .taken)) (l .value) (l .seen) (l .mark) (l .claim) (l .standing) (l .content) (l .wct) in
-    let n = c .before .before .before .before .before .before .before .before .before .before .before .before .before .before .before .before .before .before .before .before .next .given in
-    let h = fits (s .args .session .now) o x (l .tally) (l .last) (l .at) (l .inv) _ (c .before .before .before .before .before .before .before .before .before .before .before .before .before .before .before .before .before .before .before .before .before .before .read-next .ensures) _ _ (n .1) in
-    omega arith
-
-loop-less : tie.Need-loop-less Inv-loop μ-loop
-loop-less c =
-    let l = c .before .before .before .before .before .before .before .before .before .before .before .before .before .before .before .before .before .before .before .before .before .before .before .before .before .loop in
-    let s = c .before .before .before .before .before .before .before .before .before .before .before .before .before .before .before .before .before .before .before .before .before .before .before .before .before .before .before .before .before in
-    let o = opening (s .args .session .now) (s .args .nodes) (s .args .sheets) (s .pre) .opened-well in
-    let x = arrays (control (s .args .nodes) (s .args .sheets) (l .placed) (c .before .before .before .before .before .before .before .before .before .before .before .before .before .before .before .before .before .before .before .before .before .before .before .before .before .before .before .owners .result) (l .phase) (l .failed) (l .runs) (l .order) (l .place) (l .taken)) (l .value) (l .seen) (l .mark) (l .claim) (l .standing) (l .content) (l .wct) in
-    let n = c .before .before .before .before .before .before .before .before .before .before .before .before .before .before .before .before .before .before .before .before .next .given in
-    let h = fits (s .args .session .now) o x (l .tally) (l .last) (l .at) (l .inv) _ (c .before .before .before .before .before .before .before .before .before .before .before .before .before .before .before .before .before .before .before .before .before .before .read-next .ensures) _ _ (n .1) in
-    omega arith
-
-loop-again : tie.Need-loop-again Inv-loop μ-loop
-loop-again c =
-    let l = c .before .before .before .before .before .before .before .before .before .before .before .before .before .before .before .before .before .before .before .before .before .before .before .before .before .loop in
-    let s = c .before .before .before .before .before .before .before .before .before .before .before .before .before .before .before .before .before .before .before .before .before .before .before .before .before .before .before .before .before in
-    let o = opening (s .args .session .now) (s .args .nodes) (s .args .sheets) (s .pre) .opened-well in
-    let x = arrays (control (s .args .nodes) (s .args .sheets) (l .placed) (c .before .before .before .before .before .before .before .before .before .before .before .before .before .before .before .before .before .before .before .before .before .before .before .before .before .before .before .owners .result) (l .phase) (l .failed) (l .runs) (l .order) (l .place) (l .taken)) (l .value) (l .seen) (l .mark) (l .claim) (l .standing) (l .content) (l .wct) in
-    let n = c .before .before .before .before .before .before .before .before .before .before .before .before .before .before .before .before .before .before .before .before .next .given in
-    let h = fits (s .args .session .now) o x (l .tally) (l .last) (l .at) (l .inv) _ (c .before .before .before .before .before .before .before .before .before .before .before .before .before .before .before .before .before .before .before .before .before .before .read-next .ensures) _ _ (n .1) in
-    let t = c .before .before .before .before .step in
-    let y = arrays (control (s .args .nodes) (s .args .sheets) (t .result .placed) (c .before .before .before .before .before .before .before .before .before .before .before .before .before .before .before .before .before .before .before .before .before .before .before .before .before .before .before .owners .result) (t .last .1 .1 .1 .1 .0) (t .last .1 .1 .1 .1 .1 .0) (t .last .1 .1 .1 .1 .1 .1 .0) (t .last .1 .1 .1 .1 .1 .1 .1 .0) (t .last .1 .1 .1 .1 .1 .1 .1 .1 .0) (t .last .1 .1 .1 .1 .1 .1 .1 .1 .1 .0)) (t .last .1 .1 .1 .1 .1 .1 .1 .1 .1 .1 .0) (t .last .1 .1 .1 .1 .1 .1 .1 .1 .1 .1 .1 .0) (t .last .1 .1 .1 .1 .1 .1 .1 .1 .1 .1 .1 .1 .0) (t .last .1 .1 .1 .1 .1 .1 .1 .1 .1 .1 .1 .1 .1 .0) (t .last .1 .1 .1 .1 .1 .1 .1 .1 .1 .1 .1 .1 .1 .1 .0) (t .last .1 .1 .1 .1 .1 .1 .1 .1 .1 .1 .1 .1 .1 .1 .1 .0) (t .last .1 .1 .1 .1 .1 .1 .1 .1 .1 .1 .1 .1 .1 .1 .1 .1 .0) in
-    let z : Sizes y = record { shaped = t .ensures .1 .1; sized = t .ensures .1 .0 } in
-    rw (c .told .ensures) (goes-on (s .args .session .now) o x (l .tally) (l .last) (l .at) (l .inv) _ (c .before .before .before .before .before .before .before .before .before .before .before .before .before .before .before .before .before .before .before .before .before .before .read-next .ensures) _ _ (n .1) y _ (t .ensures .0) z (sym (c .before .before .before .refusal .ensures) ∙ c .before .before .if1 .left) _ (c .before .advanced .ensures))
-
-enum-told : tie.Need-enum-told Inv-loop μ-loop
-enum-told c = search needs
-
-closed-requires-2 : tie.Need-closed-requires-2 Inv-loop μ-loop
-closed-requires-2 c κs = search needs
-
-returns-2 : tie.Need-returns-2 Inv-loop μ-loop
-returns-2 c =
-    let l = c .before .before .before .before .before .before .loop in
-    let s = c .before .before .before .before .before .before .before .before .before .before in
-    let o = opening (s .args .session .now) (s .args .nodes) (s .args .sheets) (s .pre) .opened-well in
-    let x = arrays (control (s .args .nodes) (s .args .sheets) (l .placed) (c .before .before .before .before .before .before .before .before .owners .result) (l .phase) (l .failed) (l .runs) (l .order) (l .place) (l .taken)) (l .value) (l .seen) (l .mark) (l .claim) (l .standing) (l .content) (l .wct) in
-    rw (c .closed2 .ensures) (at-unknown (s .args .session .now) o x (l .tally) (l .last) (l .at) (l .inv) _ (c .before .before .before .read-next .ensures) (c .before .enum-told .given .1) (c .before .before .before .before .before .loop-test .taken))
-
-enum-told-2 : tie.Need-enum-told-2 Inv-loop μ-loop
-enum-told-2 c = search needs
-
-sub-t83 : tie.Need-sub-t83 Inv-loop μ-loop
-sub-t83 c = search needs
-
-closed-requires-3 : tie.Need-closed-requires-3 Inv-loop μ-loop
-closed-requires-3 c κs = search needs
-
-returns-3 : tie.Need-returns-3 Inv-loop μ-loop
-returns-3 c =
-    let l = c .before .before .before .before .before .before .loop in
-    let s = c .before .before .before .before .before .before .before .before .before .before in
-    let o = opening (s .args .session .now) (s .args .nodes) (s .args .sheets) (s .pre) .opened-well in
-    let x = arrays (control (s .args .nodes) (s .args .sheets) (l .placed) (c .before .before .before .before .before .before .before .before .owners .result) (l .phase) (l .failed) (l .runs) (l .order) (l .place) (l .taken)) (l .value) (l .seen) (l .mark) (l .claim) (l .standing) (l .content) (l .wct) in
-    rw (c .closed3 .ensures) (at-cut (s .args .session .now) o x (l .tally) (l .last) (l .at) (l .inv) _ (c .before .before .before .read-next .ensures) (c .before .enum-told2 .given .1))
-
-enum-told-3 : tie.Need-enum-told-3 Inv-loop μ-loop
-enum-told-3 c = search needs
-
-closed-requires-4 : tie.Need-closed-requires-4 Inv-loop μ-loop
-closed-requires-4 c κs = search needs
-
-returns-4 : tie.Need-returns-4 Inv-loop μ-loop
-returns-4 c =
-    let l = c .before .before .before .before .before .before .loop in
-    let s = c .before .before .before .before .before .before .before .before .before .before in
-    let o = opening (s .args .session .now) (s .args .nodes) (s .args .sheets) (s .pre) .opened-well in
-    let x = arrays (control (s .args .nodes) (s .args .sheets) (l .placed) (c .before .before .before .before .before .before .before .before .owners .result) (l .phase) (l .failed) (l .runs) (l .order) (l .place) (l .taken)) (l .value) (l .seen) (l .mark) (l .claim) (l .standing) (l .content) (l .wct) in
-    rw (c .closed4 .ensures) (at-end (s .args .session .now) o x (l .tally) (l .last) (l .at) (l .inv) _ (c .before .before .before .read-next .ensures) (c .before .enum-told3 .given .1))
-
-closed-requires-5 : tie.Need-closed-requires-5 Inv-loop μ-loop
-closed-requires-5 c κs = search needs
-
-returns-5 : tie.Need-returns-5 Inv-loop μ-loop
-returns-5 c =
-    let l = c .before .before .loop in
-    let s = c .before .before .before .before .before .before in
-    let o = opening (s .args .session .now) (s .args .nodes) (s .args .sheets) (s .pre) .opened-well in
-    let x = arrays (control (s .args .nodes) (s .args .sheets) (l .placed) (c .before .before .before .before .owners .result) (l .phase) (l .failed) (l .runs) (l .order) (l .place) (l .taken)) (l .value) (l .seen) (l .mark) (l .claim) (l .standing) (l .content) (l .wct) in
-    rw (c .closed5 .ensures) (done (s .args .session .now) o x (l .tally) (l .last) (l .at) (l .inv) (c .before .loop-test .left))
+returns : tie.Need-returns
+returns c = rw (c .closed .ensures) (c .before .walk .ensures)
 
 pub run-spec : {M : Type 1} → statement M
-run-spec =
-    tie.close
-    (tie.spec
-    Inv-loop
-    μ-loop
-    owners-requires
-    new-requires
-    add-at
-    loop-holds
-    sub-read-next
-    part-read-next-start
-    part-read-next-end
-    read-next-requires
-    enum-known-next
-    step-requires
-    refusal-requires
-    add-t60
-    closed-requires
-    returns
-    advanced-requires
-    told-requires
-    add-at-2
-    add-at-3
-    loop-less
-    loop-again
-    enum-told
-    closed-requires-2
-    returns-2
-    enum-told-2
-    sub-t83
-    closed-requires-3
-    returns-3
-    enum-told-3
-    closed-requires-4
-    returns-4
-    closed-requires-5
-    returns-5)
+run-spec = tie.close (tie.spec owners-requires walk-requires closed-requires returns)
