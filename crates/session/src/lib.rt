@@ -115,11 +115,12 @@ fn closed(
 pub struct Walked {
     pub placed: u8,
     pub tally: Tally,
-    pub last: Reply,
+    // The last accepted command's answer, a refusal where there is none.
+    pub last: Answer,
     pub stop: Stop,
 }
 
-fn halted(placed: u8, tally: Tally, last: Reply, stop: Stop) -> Walked
+fn halted(placed: u8, tally: Tally, last: Answer, stop: Stop) -> Walked
     ensures { λ r. ⌜ r ≡ record { placed = placed; tally = tally; last = last; stop = stop } ⌝ }
 {
     Walked {
@@ -151,11 +152,11 @@ fn walk(
     wct: &mut [u32; Session::SHEETS],
 ) -> Walked
     requires { ⌜ (Header nodes sheets ≡ opened (now session)) × Sizes (arrays (control nodes sheets 0 (now owner) (now phase) (now failed) (now runs) (now order) (now place) (now taken)) (now value) (now seen) (now mark) (now claim) (now standing) (now content) (now wct)) × (shows (arrays (control nodes sheets 0 (now owner) (now phase) (now failed) (now runs) (now order) (now place) (now taken)) (now value) (now seen) (now mark) (now claim) (now standing) (now content) (now wct)) no-tally ≡ fresh (header-of nodes sheets (owners-of (now session)))) ⌝ }
-    ensures { λ r. ⌜ Carried (now (session .entry)) (record { control = control nodes sheets (r .placed) (now (owner .entry)) (now (phase .exit)) (now (failed .exit)) (now (runs .exit)) (now (order .exit)) (now (place .exit)) (now (taken .exit)); content = now (content .exit); wct = now (wct .exit); tally = r .tally; last = r .last; stop = r .stop }) ⌝ }
+    ensures { λ r. ⌜ Carried (now (session .entry)) (record { control = control nodes sheets (r .placed) (now (owner .entry)) (now (phase .exit)) (now (failed .exit)) (now (runs .exit)) (now (order .exit)) (now (place .exit)) (now (taken .exit)); content = now (content .exit); wct = now (wct .exit); tally = r .tally; last = reply-to (r .last); stop = r .stop }) ⌝ }
 {
     let mut placed: u8 = 0;
     let mut tally = Tally::new();
-    let mut last = Reply::NoCommand;
+    let mut last = Answer::Refused(0);
     let mut at: usize = 2 + sheets as usize;
     while at < session.len() {
         let next = wire::read_next(&session[at..]);
@@ -189,7 +190,7 @@ fn walk(
                 }
                 let t = tally.advanced(a);
                 tally = t;
-                last = told(a);
+                last = a;
                 at = at + 1 + w;
             }
             Next::Unknown => return halted(placed, tally, last, Stop::Refused(at, 2, 1)),
@@ -243,7 +244,8 @@ pub fn run(session: &[u8], nodes: u8, sheets: u8) -> Ended
         &mut content,
         &mut wct,
     );
-    let last = w.last;
+    let a = w.last;
+    let last = told(a);
     let stop = w.stop;
     closed(
         nodes,

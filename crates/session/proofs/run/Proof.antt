@@ -20,11 +20,21 @@ walk-requires c κs =
       fresh-zeros (a .nodes) (a .sheets) (c .before .before .before .before .before .before .before .before .before .before .before .before .before .before .owners .result) ∙ rw (c .before .before .before .before .before .before .before .before .before .before .before .before .before .before .owners .ensures),
     )
 
+told-requires : tie.Need-told-requires
+told-requires c κs = search needs
+
 closed-requires : tie.Need-closed-requires
 closed-requires c κs = search needs
 
 returns : tie.Need-returns
-returns c = rw (c .closed .ensures) (c .before .walk .ensures)
+returns c = rw (c .closed .ensures, c .before .told .ensures) (c .before .before .walk .ensures)
 
 pub run-spec : {M : Type 1} → statement M
-run-spec = tie.close (tie.spec owners-requires walk-requires closed-requires returns)
+run-spec =
+    tie.close
+    (tie.spec
+    owners-requires
+    walk-requires
+    told-requires
+    closed-requires
+    returns)

@@ -5,6 +5,7 @@ use native.Mathlib.Omega.{arith}
 use lib.ListN.{length}
 use Rattle.tally.specs.Figures.{figures}
 use Rattle.state.specs.View.{control, no-tally}
+use Rattle.session.specs.Meaning.{reply-to}
 use Rattle.session.specs.Looping.{arrays, Sizes, Looping}
 use Rattle.session.proofs.Needs.{opening, starts, ready, room, fits, goes-on, stops, at-unknown, at-cut, at-end, done}
 use borrow.Author.Needs.{needs}
@@ -13,7 +14,7 @@ use Rattle.session.proofs.walk.Tie as tie
 
 abbrev Inv-loop : tie.InvT-loop
 Inv-loop session nodes sheets owner phase₀ failed₀ runs₀ order₀ place₀ taken₀ value₀ seen₀ mark₀ claim₀ standing₀ content₀ wct₀ placed₀ tally₀ last₀ at₀ phase failed runs order place taken value seen mark claim standing content wct placed tally last at =
-    Looping session (arrays (control nodes sheets placed owner phase failed runs order place taken) value seen mark claim standing content wct) tally last at
+    Looping session (arrays (control nodes sheets placed owner phase failed runs order place taken) value seen mark claim standing content wct) tally (reply-to last) at
 
 abbrev μ-loop : tie.MeasureT-loop
 μ-loop session nodes sheets owner phase₀ failed₀ runs₀ order₀ place₀ taken₀ value₀ seen₀ mark₀ claim₀ standing₀ content₀ wct₀ placed₀ tally₀ last₀ at₀ phase failed runs order place taken value seen mark claim standing content wct placed tally last at =
@@ -52,7 +53,7 @@ step-requires c κs =
     let s = c .before .before .before .before .before .before .before .before .before .before .before .before .before .before .before .before .before .before .before .before .before .before in
     let o = opening (s .args .session .now) (s .args .nodes) (s .args .sheets) (s .pre .0) .opened-well in
     let x = arrays (control (s .args .nodes) (s .args .sheets) (l .placed) (s .args .owner .now) (l .phase) (l .failed) (l .runs) (l .order) (l .place) (l .taken)) (l .value) (l .seen) (l .mark) (l .claim) (l .standing) (l .content) (l .wct) in
-    ready (s .args .session .now) o x (l .tally) (l .last) (l .at) (l .inv)
+    ready (s .args .session .now) o x (l .tally) (reply-to (l .last)) (l .at) (l .inv)
 
 refusal-requires : tie.Need-refusal-requires Inv-loop μ-loop
 refusal-requires c κs = search needs
@@ -64,7 +65,7 @@ add-t49 c =
     let o = opening (s .args .session .now) (s .args .nodes) (s .args .sheets) (s .pre .0) .opened-well in
     let x = arrays (control (s .args .nodes) (s .args .sheets) (l .placed) (s .args .owner .now) (l .phase) (l .failed) (l .runs) (l .order) (l .place) (l .taken)) (l .value) (l .seen) (l .mark) (l .claim) (l .standing) (l .content) (l .wct) in
     let n = c .before .before .before .before .before .before .before .before .before .before .before .before .before .before .before .before .before .next .given in
-    let h = fits (s .args .session .now) o x (l .tally) (l .last) (l .at) (l .inv) _ (c .before .before .before .before .before .before .before .before .before .before .before .before .before .before .before .before .before .before .before .read-next .ensures) _ _ (n .1) in
+    let h = fits (s .args .session .now) o x (l .tally) (reply-to (l .last)) (l .at) (l .inv) _ (c .before .before .before .before .before .before .before .before .before .before .before .before .before .before .before .before .before .before .before .read-next .ensures) _ _ (n .1) in
     omega arith
 
 halted-requires : tie.Need-halted-requires Inv-loop μ-loop
@@ -77,11 +78,11 @@ returns c =
     let o = opening (s .args .session .now) (s .args .nodes) (s .args .sheets) (s .pre .0) .opened-well in
     let x = arrays (control (s .args .nodes) (s .args .sheets) (l .placed) (s .args .owner .now) (l .phase) (l .failed) (l .runs) (l .order) (l .place) (l .taken)) (l .value) (l .seen) (l .mark) (l .claim) (l .standing) (l .content) (l .wct) in
     let n = c .before .before .before .before .before .before .before .before .before .before .before .before .before .before .before .before .before .before .next .given in
-    let h = fits (s .args .session .now) o x (l .tally) (l .last) (l .at) (l .inv) _ (c .before .before .before .before .before .before .before .before .before .before .before .before .before .before .before .before .before .before .before .before .read-next .ensures) _ _ (n .1) in
+    let h = fits (s .args .session .now) o x (l .tally) (reply-to (l .last)) (l .at) (l .inv) _ (c .before .before .before .before .before .before .before .before .before .before .before .before .before .before .before .before .before .before .before .before .read-next .ensures) _ _ (n .1) in
     let t = c .before .before .before .step in
     let y = arrays (control (s .args .nodes) (s .args .sheets) (t .result .placed) (s .args .owner .now) (t .last .1 .1 .1 .1 .0) (t .last .1 .1 .1 .1 .1 .0) (t .last .1 .1 .1 .1 .1 .1 .0) (t .last .1 .1 .1 .1 .1 .1 .1 .0) (t .last .1 .1 .1 .1 .1 .1 .1 .1 .0) (t .last .1 .1 .1 .1 .1 .1 .1 .1 .1 .0)) (t .last .1 .1 .1 .1 .1 .1 .1 .1 .1 .1 .0) (t .last .1 .1 .1 .1 .1 .1 .1 .1 .1 .1 .1 .0) (t .last .1 .1 .1 .1 .1 .1 .1 .1 .1 .1 .1 .1 .0) (t .last .1 .1 .1 .1 .1 .1 .1 .1 .1 .1 .1 .1 .1 .0) (t .last .1 .1 .1 .1 .1 .1 .1 .1 .1 .1 .1 .1 .1 .1 .0) (t .last .1 .1 .1 .1 .1 .1 .1 .1 .1 .1 .1 .1 .1 .1 .1 .0) (t .last .1 .1 .1 .1 .1 .1 .1 .1 .1 .1 .1 .1 .1 .1 .1 .1 .0) in
     let z : Sizes y = record { shaped = t .ensures .1 .1; sized = t .ensures .1 .0 } in
-    rw (c .halted .ensures, c .before .before .refusal .ensures) (stops (s .args .session .now) o x (l .tally) (l .last) (l .at) (l .inv) _ (c .before .before .before .before .before .before .before .before .before .before .before .before .before .before .before .before .before .before .before .before .read-next .ensures) _ _ (n .1) y _ (t .ensures .0) z (λ e. c .before .if1 .taken (c .before .before .refusal .ensures ∙ e)))
+    rw (c .halted .ensures, c .before .before .refusal .ensures) (stops (s .args .session .now) o x (l .tally) (reply-to (l .last)) (l .at) (l .inv) _ (c .before .before .before .before .before .before .before .before .before .before .before .before .before .before .before .before .before .before .before .before .read-next .ensures) _ _ (n .1) y _ (t .ensures .0) z (λ e. c .before .if1 .taken (c .before .before .refusal .ensures ∙ e)))
 
 advanced-requires : tie.Need-advanced-requires Inv-loop μ-loop
 advanced-requires c κs =
@@ -89,53 +90,50 @@ advanced-requires c κs =
     let s = c .before .before .before .before .before .before .before .before .before .before .before .before .before .before .before .before .before .before .before .before .before .before .before .before .before in
     let o = opening (s .args .session .now) (s .args .nodes) (s .args .sheets) (s .pre .0) .opened-well in
     let x = arrays (control (s .args .nodes) (s .args .sheets) (l .placed) (s .args .owner .now) (l .phase) (l .failed) (l .runs) (l .order) (l .place) (l .taken)) (l .value) (l .seen) (l .mark) (l .claim) (l .standing) (l .content) (l .wct) in
-    room (s .args .session .now) o x (l .tally) (l .last) (l .at) (l .inv)
-
-told-requires : tie.Need-told-requires Inv-loop μ-loop
-told-requires c κs = search needs
+    room (s .args .session .now) o x (l .tally) (reply-to (l .last)) (l .at) (l .inv)
 
 add-at-2 : tie.Need-add-at-2 Inv-loop μ-loop
 add-at-2 c =
-    let l = c .before .before .before .before .before .before .before .before .before .before .before .before .before .before .before .before .before .before .before .before .before .before .before .before .loop in
-    let s = c .before .before .before .before .before .before .before .before .before .before .before .before .before .before .before .before .before .before .before .before .before .before .before .before .before .before .before in
+    let l = c .before .before .before .before .before .before .before .before .before .before .before .before .before .before .before .before .before .before .before .before .before .before .before .loop in
+    let s = c .before .before .before .before .before .before .before .before .before .before .before .before .before .before .before .before .before .before .before .before .before .before .before .before .before .before in
     let o = opening (s .args .session .now) (s .args .nodes) (s .args .sheets) (s .pre .0) .opened-well in
     let x = arrays (control (s .args .nodes) (s .args .sheets) (l .placed) (s .args .owner .now) (l .phase) (l .failed) (l .runs) (l .order) (l .place) (l .taken)) (l .value) (l .seen) (l .mark) (l .claim) (l .standing) (l .content) (l .wct) in
-    let n = c .before .before .before .before .before .before .before .before .before .before .before .before .before .before .before .before .before .before .before .next .given in
-    let h = fits (s .args .session .now) o x (l .tally) (l .last) (l .at) (l .inv) _ (c .before .before .before .before .before .before .before .before .before .before .before .before .before .before .before .before .before .before .before .before .before .read-next .ensures) _ _ (n .1) in
+    let n = c .before .before .before .before .before .before .before .before .before .before .before .before .before .before .before .before .before .before .next .given in
+    let h = fits (s .args .session .now) o x (l .tally) (reply-to (l .last)) (l .at) (l .inv) _ (c .before .before .before .before .before .before .before .before .before .before .before .before .before .before .before .before .before .before .before .before .read-next .ensures) _ _ (n .1) in
     omega arith
 
 add-at-3 : tie.Need-add-at-3 Inv-loop μ-loop
 add-at-3 c =
-    let l = c .before .before .before .before .before .before .before .before .before .before .before .before .before .before .before .before .before .before .before .before .before .before .before .before .loop in
-    let s = c .before .before .before .before .before .before .before .before .before .before .before .before .before .before .before .before .before .before .before .before .before .before .before .before .before .before .before in
+    let l = c .before .before .before .before .before .before .before .before .before .before .before .before .before .before .before .before .before .before .before .before .before .before .before .loop in
+    let s = c .before .before .before .before .before .before .before .before .before .before .before .before .before .before .before .before .before .before .before .before .before .before .before .before .before .before in
     let o = opening (s .args .session .now) (s .args .nodes) (s .args .sheets) (s .pre .0) .opened-well in
     let x = arrays (control (s .args .nodes) (s .args .sheets) (l .placed) (s .args .owner .now) (l .phase) (l .failed) (l .runs) (l .order) (l .place) (l .taken)) (l .value) (l .seen) (l .mark) (l .claim) (l .standing) (l .content) (l .wct) in
-    let n = c .before .before .before .before .before .before .before .before .before .before .before .before .before .before .before .before .before .before .before .next .given in
-    let h = fits (s .args .session .now) o x (l .tally) (l .last) (l .at) (l .inv) _ (c .before .before .before .before .before .before .before .before .before .before .before .before .before .before .before .before .before .before .before .before .before .read-next .ensures) _ _ (n .1) in
+    let n = c .before .before .before .before .before .before .before .before .before .before .before .before .before .before .before .before .before .before .next .given in
+    let h = fits (s .args .session .now) o x (l .tally) (reply-to (l .last)) (l .at) (l .inv) _ (c .before .before .before .before .before .before .before .before .before .before .before .before .before .before .before .before .before .before .before .before .read-next .ensures) _ _ (n .1) in
     omega arith
 
 loop-less : tie.Need-loop-less Inv-loop μ-loop
 loop-less c =
-    let l = c .before .before .before .before .before .before .before .before .before .before .before .before .before .before .before .before .before .before .before .before .before .before .before .before .loop in
-    let s = c .before .before .before .before .before .before .before .before .before .before .before .before .before .before .before .before .before .before .before .before .before .before .before .before .before .before .before in
+    let l = c .before .before .before .before .before .before .before .before .before .before .before .before .before .before .before .before .before .before .before .before .before .before .before .loop in
+    let s = c .before .before .before .before .before .before .before .before .before .before .before .before .before .before .before .before .before .before .before .before .before .before .before .before .before .before in
     let o = opening (s .args .session .now) (s .args .nodes) (s .args .sheets) (s .pre .0) .opened-well in
     let x = arrays (control (s .args .nodes) (s .args .sheets) (l .placed) (s .args .owner .now) (l .phase) (l .failed) (l .runs) (l .order) (l .place) (l .taken)) (l .value) (l .seen) (l .mark) (l .claim) (l .standing) (l .content) (l .wct) in
-    let n = c .before .before .before .before .before .before .before .before .before .before .before .before .before .before .before .before .before .before .before .next .given in
-    let h = fits (s .args .session .now) o x (l .tally) (l .last) (l .at) (l .inv) _ (c .before .before .before .before .before .before .before .before .before .before .before .before .before .before .before .before .before .before .before .before .before .read-next .ensures) _ _ (n .1) in
+    let n = c .before .before .before .before .before .before .before .before .before .before .before .before .before .before .before .before .before .before .next .given in
+    let h = fits (s .args .session .now) o x (l .tally) (reply-to (l .last)) (l .at) (l .inv) _ (c .before .before .before .before .before .before .before .before .before .before .before .before .before .before .before .before .before .before .before .before .read-next .ensures) _ _ (n .1) in
     omega arith
 
 loop-again : tie.Need-loop-again Inv-loop μ-loop
 loop-again c =
-    let l = c .before .before .before .before .before .before .before .before .before .before .before .before .before .before .before .before .before .before .before .before .before .before .before .before .loop in
-    let s = c .before .before .before .before .before .before .before .before .before .before .before .before .before .before .before .before .before .before .before .before .before .before .before .before .before .before .before in
+    let l = c .before .before .before .before .before .before .before .before .before .before .before .before .before .before .before .before .before .before .before .before .before .before .before .loop in
+    let s = c .before .before .before .before .before .before .before .before .before .before .before .before .before .before .before .before .before .before .before .before .before .before .before .before .before .before in
     let o = opening (s .args .session .now) (s .args .nodes) (s .args .sheets) (s .pre .0) .opened-well in
     let x = arrays (control (s .args .nodes) (s .args .sheets) (l .placed) (s .args .owner .now) (l .phase) (l .failed) (l .runs) (l .order) (l .place) (l .taken)) (l .value) (l .seen) (l .mark) (l .claim) (l .standing) (l .content) (l .wct) in
-    let n = c .before .before .before .before .before .before .before .before .before .before .before .before .before .before .before .before .before .before .before .next .given in
-    let h = fits (s .args .session .now) o x (l .tally) (l .last) (l .at) (l .inv) _ (c .before .before .before .before .before .before .before .before .before .before .before .before .before .before .before .before .before .before .before .before .before .read-next .ensures) _ _ (n .1) in
-    let t = c .before .before .before .before .step in
+    let n = c .before .before .before .before .before .before .before .before .before .before .before .before .before .before .before .before .before .before .next .given in
+    let h = fits (s .args .session .now) o x (l .tally) (reply-to (l .last)) (l .at) (l .inv) _ (c .before .before .before .before .before .before .before .before .before .before .before .before .before .before .before .before .before .before .before .before .read-next .ensures) _ _ (n .1) in
+    let t = c .before .before .before .step in
     let y = arrays (control (s .args .nodes) (s .args .sheets) (t .result .placed) (s .args .owner .now) (t .last .1 .1 .1 .1 .0) (t .last .1 .1 .1 .1 .1 .0) (t .last .1 .1 .1 .1 .1 .1 .0) (t .last .1 .1 .1 .1 .1 .1 .1 .0) (t .last .1 .1 .1 .1 .1 .1 .1 .1 .0) (t .last .1 .1 .1 .1 .1 .1 .1 .1 .1 .0)) (t .last .1 .1 .1 .1 .1 .1 .1 .1 .1 .1 .0) (t .last .1 .1 .1 .1 .1 .1 .1 .1 .1 .1 .1 .0) (t .last .1 .1 .1 .1 .1 .1 .1 .1 .1 .1 .1 .1 .0) (t .last .1 .1 .1 .1 .1 .1 .1 .1 .1 .1 .1 .1 .1 .0) (t .last .1 .1 .1 .1 .1 .1 .1 .1 .1 .1 .1 .1 .1 .1 .0) (t .last .1 .1 .1 .1 .1 .1 .1 .1 .1 .1 .1 .1 .1 .1 .1 .0) (t .last .1 .1 .1 .1 .1 .1 .1 .1 .1 .1 .1 .1 .1 .1 .1 .1 .0) in
     let z : Sizes y = record { shaped = t .ensures .1 .1; sized = t .ensures .1 .0 } in
-    rw (c .told .ensures) (goes-on (s .args .session .now) o x (l .tally) (l .last) (l .at) (l .inv) _ (c .before .before .before .before .before .before .before .before .before .before .before .before .before .before .before .before .before .before .before .before .before .read-next .ensures) _ _ (n .1) y _ (t .ensures .0) z (sym (c .before .before .before .refusal .ensures) ∙ c .before .before .if1 .left) _ (c .before .advanced .ensures))
+    (goes-on (s .args .session .now) o x (l .tally) (reply-to (l .last)) (l .at) (l .inv) _ (c .before .before .before .before .before .before .before .before .before .before .before .before .before .before .before .before .before .before .before .before .read-next .ensures) _ _ (n .1) y _ (t .ensures .0) z (sym (c .before .before .refusal .ensures) ∙ c .before .if1 .left) _ (c .advanced .ensures))
 
 enum-told : tie.Need-enum-told Inv-loop μ-loop
 enum-told c = search needs
@@ -149,7 +147,7 @@ returns-2 c =
     let s = c .before .before .before .before .before .before .before .before .before in
     let o = opening (s .args .session .now) (s .args .nodes) (s .args .sheets) (s .pre .0) .opened-well in
     let x = arrays (control (s .args .nodes) (s .args .sheets) (l .placed) (s .args .owner .now) (l .phase) (l .failed) (l .runs) (l .order) (l .place) (l .taken)) (l .value) (l .seen) (l .mark) (l .claim) (l .standing) (l .content) (l .wct) in
-    rw (c .halted2 .ensures) (at-unknown (s .args .session .now) o x (l .tally) (l .last) (l .at) (l .inv) _ (c .before .before .before .read-next .ensures) (c .before .enum-told .given .1) (c .before .before .before .before .before .loop-test .taken))
+    rw (c .halted2 .ensures) (at-unknown (s .args .session .now) o x (l .tally) (reply-to (l .last)) (l .at) (l .inv) _ (c .before .before .before .read-next .ensures) (c .before .enum-told .given .1) (c .before .before .before .before .before .loop-test .taken))
 
 enum-told-2 : tie.Need-enum-told-2 Inv-loop μ-loop
 enum-told-2 c = search needs
@@ -166,7 +164,7 @@ returns-3 c =
     let s = c .before .before .before .before .before .before .before .before .before in
     let o = opening (s .args .session .now) (s .args .nodes) (s .args .sheets) (s .pre .0) .opened-well in
     let x = arrays (control (s .args .nodes) (s .args .sheets) (l .placed) (s .args .owner .now) (l .phase) (l .failed) (l .runs) (l .order) (l .place) (l .taken)) (l .value) (l .seen) (l .mark) (l .claim) (l .standing) (l .content) (l .wct) in
-    rw (c .halted3 .ensures) (at-cut (s .args .session .now) o x (l .tally) (l .last) (l .at) (l .inv) _ (c .before .before .before .read-next .ensures) (c .before .enum-told2 .given .1))
+    rw (c .halted3 .ensures) (at-cut (s .args .session .now) o x (l .tally) (reply-to (l .last)) (l .at) (l .inv) _ (c .before .before .before .read-next .ensures) (c .before .enum-told2 .given .1))
 
 enum-told-3 : tie.Need-enum-told-3 Inv-loop μ-loop
 enum-told-3 c = search needs
@@ -180,7 +178,7 @@ returns-4 c =
     let s = c .before .before .before .before .before .before .before .before .before in
     let o = opening (s .args .session .now) (s .args .nodes) (s .args .sheets) (s .pre .0) .opened-well in
     let x = arrays (control (s .args .nodes) (s .args .sheets) (l .placed) (s .args .owner .now) (l .phase) (l .failed) (l .runs) (l .order) (l .place) (l .taken)) (l .value) (l .seen) (l .mark) (l .claim) (l .standing) (l .content) (l .wct) in
-    rw (c .halted4 .ensures) (at-end (s .args .session .now) o x (l .tally) (l .last) (l .at) (l .inv) _ (c .before .before .before .read-next .ensures) (c .before .enum-told3 .given .1))
+    rw (c .halted4 .ensures) (at-end (s .args .session .now) o x (l .tally) (reply-to (l .last)) (l .at) (l .inv) _ (c .before .before .before .read-next .ensures) (c .before .enum-told3 .given .1))
 
 halted-requires-5 : tie.Need-halted-requires-5 Inv-loop μ-loop
 halted-requires-5 c κs = search needs
@@ -191,7 +189,7 @@ returns-5 c =
     let s = c .before .before .before .before .before in
     let o = opening (s .args .session .now) (s .args .nodes) (s .args .sheets) (s .pre .0) .opened-well in
     let x = arrays (control (s .args .nodes) (s .args .sheets) (l .placed) (s .args .owner .now) (l .phase) (l .failed) (l .runs) (l .order) (l .place) (l .taken)) (l .value) (l .seen) (l .mark) (l .claim) (l .standing) (l .content) (l .wct) in
-    rw (c .halted5 .ensures) (done (s .args .session .now) o x (l .tally) (l .last) (l .at) (l .inv) (c .before .loop-test .left))
+    rw (c .halted5 .ensures) (done (s .args .session .now) o x (l .tally) (reply-to (l .last)) (l .at) (l .inv) (c .before .loop-test .left))
 
 pub walk-spec : {M : Type 1} → statement M
 walk-spec =
@@ -213,7 +211,6 @@ walk-spec =
     halted-requires
     returns
     advanced-requires
-    told-requires
     add-at-2
     add-at-3
     loop-less
