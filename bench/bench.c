@@ -75,12 +75,15 @@ static void all_nodes_apply(struct session *s, int t)
         COMMAND(s, 7, (uint8_t)n, (uint8_t)t);
 }
 
-static void read_and_write_all(struct session *s, int t)
+/* All sheets, and then `more` reads of own copies. */
+static void read_and_write_all(struct session *s, int t, int more)
 {
     for (int k = 0; k < SHEETS; k++)
         read_sheet(s, t, k);
     for (int k = 0; k < SHEETS; k++)
         write_sheet(s, t, k, (uint32_t)(t * 1000003 + k));
+    for (int k = 0; k < more; k++)
+        read_sheet(s, t, k % SHEETS);
 }
 
 /* One save reads and writes its own copies until the session is full to the byte. */
@@ -100,12 +103,12 @@ static void make_own(struct session *s)
     }
 }
 
-static void make_serial(struct session *s)
+static void serial(struct session *s, const char *name, int more)
 {
-    header(s, "serial saves", NODES, SHEETS);
+    header(s, name, NODES, SHEETS);
     for (int t = 0; t < SAVES; t++) {
         on_save(s, 1, t);
-        read_and_write_all(s, t);
+        read_and_write_all(s, t, more);
         on_save(s, 4, t);
         all_nodes_take(s);
         on_save(s, 6, t);
@@ -114,12 +117,12 @@ static void make_serial(struct session *s)
 }
 
 /* All saves run at once on all sheets: the first commits, each other one runs twice. */
-static void make_conflict(struct session *s)
+static void conflict(struct session *s, const char *name, int more)
 {
-    header(s, "all in conflict", NODES, SHEETS);
+    header(s, name, NODES, SHEETS);
     for (int t = 0; t < SAVES; t++) {
         on_save(s, 1, t);
-        read_and_write_all(s, t);
+        read_and_write_all(s, t, more);
     }
     for (int t = 0; t < SAVES; t++)
         on_save(s, 4, t);
@@ -128,12 +131,21 @@ static void make_conflict(struct session *s)
     for (int t = 0; t < SAVES; t++) {
         on_save(s, 6, t);
         if (t > 0) {
-            read_and_write_all(s, t);
+            read_and_write_all(s, t, 0);
             on_save(s, 4, t);
         }
         all_nodes_apply(s, t);
     }
 }
+
+/* With these reads the sessions have nearly 16,384 bytes. */
+static void make_serial_long(struct session *s) { serial(s, "serial saves, long", 108); }
+
+static void make_serial(struct session *s) { serial(s, "serial saves", 0); }
+
+static void make_conflict_long(struct session *s) { conflict(s, "all in conflict, long", 56); }
+
+static void make_conflict(struct session *s) { conflict(s, "all in conflict", 0); }
 
 static void make_w(struct session *s)
 {
@@ -192,7 +204,8 @@ static void check(const struct session *s)
 int main(int count, char **words)
 {
     static struct session s;
-    void (*const make[])(struct session *) = { make_own, make_serial, make_conflict, make_w, make_empty };
+    void (*const make[])(struct session *) = { make_own, make_serial_long, make_conflict_long, make_serial,
+                                                make_conflict, make_w, make_empty };
     int turns = count > 1 ? atoi(words[1]) : 300;
     printf("%-21s %6s %6s | %10s %8s | %10s %8s | %6s\n", "session", "bytes", "cmds", "engine ns",
            "ns/cmd", "plain ns", "ns/cmd", "ratio");
