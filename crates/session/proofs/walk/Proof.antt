@@ -1,5 +1,5 @@
 -- The arrays are lent on to each step; what is known of them is `Looping`, and each need is one law of `Needs`.
-use Prim.Native.Nat.{ℕ, _-_}
+use Prim.Native.Nat.{_-_}
 use mathlib.Core.Path.{_≡_, sym, _∙_}
 use native.Mathlib.Omega.{arith}
 use lib.ListN.{length}
