@@ -8,7 +8,7 @@ ghost use lib.Dec.{eqb, leb};
 ghost use Rattle.rules.specs.Bytes.{Read, Write};
 ghost use Rattle.rules.specs.Steps.{at-front, x-on};
 ghost use Rattle.state.specs.View.{set?, claim-in, queue-in, control, view, Steps};
-ghost use Rattle.state.specs.Ready.{Once, Onces, Queued};
+ghost use Rattle.state.specs.Ready.{Once, Onces, Queued, Gone, Behind};
 ghost use Rattle.queues.specs.Walk.{Walk};
 use state::Answer;
 use state::Session;
@@ -40,16 +40,17 @@ fn blocked(
     claim: &[u8; Session::COPIES],
     n: usize,
     k: usize,
+    from: usize,
     upto: usize,
     p: u8,
 ) -> bool
-    requires { ⌜ Walk (now order) n k upto ⌝ }
+    requires { ⌜ Walk (now order) n k upto × (from ≤ upto) × Gone (now order) (now standing) n from ⌝ }
     ensures { λ r. ⌜ ((place : ℕ → ℕ) → Once (now (order .entry)) place upto → r ≡ (not (eqb p 3) && at-front (x-on (claim-in (now (claim .entry))) k) (queue-in (now (order .entry)) place (now (standing .entry)) (now (claim .entry)) n k upto))) ⌝ }
 {
     if p == 3 {
         return false;
     }
-    queues::front_x(order, standing, claim, n, k, upto)
+    queues::front_x(order, standing, claim, n, k, from, upto)
 }
 
 // A save is answered from its own copy of the sheet, which is made first where it has none.
@@ -59,6 +60,7 @@ pub fn read(
     phase: &[u8; Session::SAVES],
     order: &[u8; Session::SAVES],
     taken: &[u8; Session::NODES],
+    gone: &[u8; Session::NODES],
     value: &mut [u32; Session::COPIES],
     seen: &mut [u32; Session::COPIES],
     mark: &mut [u8; Session::COPIES],
@@ -69,7 +71,7 @@ pub fn read(
     t: u8,
     k: u8,
 ) -> Answer
-    requires { ⌜ Queued sheets (now owner) (now order) (now taken) × (length (now value) ≡ 2048) × (length (now seen) ≡ 2048) × (length (now mark) ≡ 2048) ⌝ }
+    requires { ⌜ Queued sheets (now owner) (now order) (now taken) × (length (now value) ≡ 2048) × (length (now seen) ≡ 2048) × (length (now mark) ≡ 2048) × Behind (now order) (now standing) (now taken) (now gone) ⌝ }
     ensures { λ r. ⌜ ((nodes placed : ℕ) (failed runs place : List ℕ) → Onces (now (order .entry)) place (now (taken .entry)) → Steps (view (control nodes sheets placed (now (owner .entry)) (now (phase .entry)) failed runs (now (order .entry)) place (now (taken .entry))) (now (value .entry)) (now (seen .entry)) (now (mark .entry)) (now (claim .entry)) (now (standing .entry)) (now (content .entry)) (now (wct .entry))) (Read t k) (view (control nodes sheets placed (now (owner .entry)) (now (phase .entry)) failed runs (now (order .entry)) place (now (taken .entry))) (now (value .exit)) (now (seen .exit)) (now (mark .exit)) (now (claim .entry)) (now (standing .entry)) (now (content .entry)) (now (wct .entry))) r) ⌝ }
     ensures kept { λ _. ⌜ (length (now (value .exit)) ≡ 2048) × (length (now (seen .exit)) ≡ 2048) × (length (now (mark .exit)) ≡ 2048) ⌝ }
 {
@@ -98,8 +100,9 @@ pub fn read(
         return Answer::Content(v);
     }
     let n = owner[ki] as usize;
+    let from = gone[n] as usize;
     let upto = taken[n] as usize;
-    let b = blocked(order, standing, claim, n, ki, upto, p);
+    let b = blocked(order, standing, claim, n, ki, from, upto, p);
     if b {
         return Answer::Refused(6);
     }

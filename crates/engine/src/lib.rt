@@ -1,7 +1,7 @@
 // One step of a session.
 ghost use Rattle.wire.specs.Meaning.{command-of};
 ghost use Rattle.state.specs.View.{control, view, no-tally, Steps};
-ghost use Rattle.state.specs.Ready.{Shaped, Sized, Known};
+ghost use Rattle.state.specs.Ready.{Shaped, Sized, Known, Behind};
 use state::Session;
 use state::Stepped;
 use wire::Command;
@@ -18,6 +18,7 @@ pub fn step(
     order: &mut [u8; Session::SAVES],
     place: &mut [u8; Session::SAVES],
     taken: &mut [u8; Session::NODES],
+    gone: &mut [u8; Session::NODES],
     value: &mut [u32; Session::COPIES],
     seen: &mut [u32; Session::COPIES],
     mark: &mut [u8; Session::COPIES],
@@ -27,9 +28,9 @@ pub fn step(
     wct: &mut [u32; Session::SHEETS],
     c: Command,
 ) -> Stepped
-    requires { ⌜ Shaped (control nodes sheets placed (now owner) (now phase) (now failed) (now runs) (now order) (now place) (now taken)) × Sized (now value) (now seen) (now mark) (now claim) (now standing) (now content) (now wct) × Known (view (control nodes sheets placed (now owner) (now phase) (now failed) (now runs) (now order) (now place) (now taken)) (now value) (now seen) (now mark) (now claim) (now standing) (now content) (now wct) no-tally) ⌝ }
+    requires { ⌜ Shaped (control nodes sheets placed (now owner) (now phase) (now failed) (now runs) (now order) (now place) (now taken)) × Sized (now value) (now seen) (now mark) (now claim) (now standing) (now content) (now wct) × Known (view (control nodes sheets placed (now owner) (now phase) (now failed) (now runs) (now order) (now place) (now taken)) (now value) (now seen) (now mark) (now claim) (now standing) (now content) (now wct) no-tally) × Behind (now order) (now standing) (now taken) (now gone) ⌝ }
     ensures { λ r. ⌜ Steps (view (control nodes sheets placed (now (owner .entry)) (now (phase .entry)) (now (failed .entry)) (now (runs .entry)) (now (order .entry)) (now (place .entry)) (now (taken .entry))) (now (value .entry)) (now (seen .entry)) (now (mark .entry)) (now (claim .entry)) (now (standing .entry)) (now (content .entry)) (now (wct .entry))) (command-of c) (view (control nodes sheets (r .placed) (now (owner .entry)) (now (phase .exit)) (now (failed .exit)) (now (runs .exit)) (now (order .exit)) (now (place .exit)) (now (taken .exit))) (now (value .exit)) (now (seen .exit)) (now (mark .exit)) (now (claim .exit)) (now (standing .exit)) (now (content .exit)) (now (wct .exit))) (r .answer) ⌝ }
-    ensures kept { λ r. ⌜ Sized (now (value .exit)) (now (seen .exit)) (now (mark .exit)) (now (claim .exit)) (now (standing .exit)) (now (content .exit)) (now (wct .exit)) × Shaped (control nodes sheets (r .placed) (now (owner .entry)) (now (phase .exit)) (now (failed .exit)) (now (runs .exit)) (now (order .exit)) (now (place .exit)) (now (taken .exit))) ⌝ }
+    ensures kept { λ r. ⌜ Sized (now (value .exit)) (now (seen .exit)) (now (mark .exit)) (now (claim .exit)) (now (standing .exit)) (now (content .exit)) (now (wct .exit)) × Shaped (control nodes sheets (r .placed) (now (owner .entry)) (now (phase .exit)) (now (failed .exit)) (now (runs .exit)) (now (order .exit)) (now (place .exit)) (now (taken .exit))) × Behind (now (order .exit)) (now (standing .exit)) (now (taken .exit)) (now (gone .exit)) ⌝ }
 {
     match c {
         Command::Begin(t) => {
@@ -46,6 +47,7 @@ pub fn step(
                 phase,
                 order,
                 taken,
+                gone,
                 value,
                 seen,
                 mark,
@@ -78,6 +80,7 @@ pub fn step(
                 failed,
                 order,
                 taken,
+                gone,
                 seen,
                 claim,
                 standing,
@@ -99,6 +102,7 @@ pub fn step(
                 order,
                 place,
                 taken,
+                gone,
                 mark,
                 claim,
                 standing,
@@ -118,6 +122,7 @@ pub fn step(
                 order,
                 place,
                 taken,
+                gone,
                 value,
                 mark,
                 claim,

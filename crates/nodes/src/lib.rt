@@ -3,12 +3,12 @@ ghost use Prim.Native.Nat.{ℕ, _+_, _*_, _≤_, _<_};
 ghost use mathlib.Core.Path.{_≡_};
 ghost use mathlib.Core.Bool.{_&&_, cond};
 ghost use mathlib.Core.List.{List};
-ghost use lib.ListN.{length};
+ghost use lib.ListN.{getD, length};
 ghost use lib.Dec.{eqb, leb};
 ghost use Rattle.rules.specs.Bytes.{Take, Apply};
 ghost use Rattle.state.specs.View.{control, view, Steps};
 ghost use Rattle.state.specs.Fill.{fill};
-ghost use Rattle.state.specs.Ready.{Small, Onces, Queued, Ready, Rising};
+ghost use Rattle.state.specs.Ready.{Small, Once, Onces, Queued, Ready, Rising, Gone, Behind};
 ghost use Rattle.nodes.specs.Carry.{contents, wcts};
 use state::Answer;
 use state::Session;
@@ -23,15 +23,17 @@ pub fn take(
     failed: &mut [u8; Session::SAVES],
     order: &[u8; Session::SAVES],
     taken: &mut [u8; Session::NODES],
+    gone: &[u8; Session::NODES],
     seen: &[u32; Session::COPIES],
     claim: &[u8; Session::COPIES],
     standing: &mut [u8; Session::STANDING],
     wct: &[u32; Session::SHEETS],
     n: u8,
 ) -> Answer
-    requires { ⌜ Queued sheets (now owner) (now order) (now taken) × (nodes ≤ 8) × (placed ≤ 32) × Small (now order) placed × (length (now failed) ≡ 32) × (length (now taken) ≡ 8) × (length (now standing) ≡ 256) ⌝ }
+    requires { ⌜ Queued sheets (now owner) (now order) (now taken) × (nodes ≤ 8) × (placed ≤ 32) × Small (now order) placed × (length (now failed) ≡ 32) × (length (now taken) ≡ 8) × (length (now standing) ≡ 256) × Behind (now order) (now standing) (now taken) (now gone) ⌝ }
     ensures { λ r. ⌜ ((phase runs place value mark content : List ℕ) → Ready (control nodes sheets placed (now (owner .entry)) phase (now (failed .entry)) runs (now (order .entry)) place (now (taken .entry))) → Steps (view (control nodes sheets placed (now (owner .entry)) phase (now (failed .entry)) runs (now (order .entry)) place (now (taken .entry))) value (now (seen .entry)) mark (now (claim .entry)) (now (standing .entry)) content (now (wct .entry))) (Take n) (view (control nodes sheets placed (now (owner .entry)) phase (now (failed .exit)) runs (now (order .entry)) place (now (taken .exit))) value (now (seen .entry)) mark (now (claim .entry)) (now (standing .exit)) content (now (wct .entry))) r) ⌝ }
     ensures kept { λ _. ⌜ (length (now (failed .exit)) ≡ 32) × (length (now (taken .exit)) ≡ 8) × (length (now (standing .exit)) ≡ 256) ⌝ }
+    ensures behind { λ _. ⌜ ((place : List ℕ) → Once (now (order .entry)) (λ u. getD place u 0) placed → ((m : ℕ) → getD (now (taken .entry)) m 0 ≤ placed) → Behind (now (order .entry)) (now (standing .exit)) (now (taken .exit)) (now (gone .entry))) ⌝ }
 {
     if nodes <= n {
         return Answer::Refused(4);
@@ -49,6 +51,7 @@ pub fn take(
         owner,
         order,
         taken,
+        gone,
         seen,
         claim,
         standing,
@@ -121,6 +124,30 @@ fn carry_out(
     }
 }
 
+// The first of the places from g on whose save stands at node n, which has taken `upto`; upto if there is none.
+fn behind(
+    order: &[u8; Session::SAVES],
+    standing: &[u8; Session::STANDING],
+    n: usize,
+    g: u8,
+    upto: u8,
+) -> u8
+    requires { ⌜ (n < 8) × (g ≤ upto) × (upto ≤ 32) × Small (now order) upto × Gone (now order) (now standing) n g ⌝ }
+    ensures { λ r. ⌜ (r ≤ upto) × Gone (now (order .entry)) (now (standing .entry)) n r ⌝ }
+{
+    let mut q = g;
+    while q < upto {
+        let qi = q as usize;
+        let u = order[qi] as usize;
+        let e = standing[n * Session::SAVES + u];
+        if e != 0 {
+            return q;
+        }
+        q += 1;
+    }
+    q
+}
+
 // Node n carries out save t's outcome, and t's entries there go.
 pub fn apply(
     nodes: u8,
@@ -130,6 +157,7 @@ pub fn apply(
     order: &[u8; Session::SAVES],
     place: &[u8; Session::SAVES],
     taken: &[u8; Session::NODES],
+    gone: &mut [u8; Session::NODES],
     value: &[u32; Session::COPIES],
     mark: &[u8; Session::COPIES],
     claim: &[u8; Session::COPIES],
@@ -139,9 +167,9 @@ pub fn apply(
     n: u8,
     t: u8,
 ) -> Answer
-    requires { ⌜ Queued sheets (now owner) (now order) (now taken) × Onces (now order) (now place) (now taken) × (nodes ≤ 8) × (length (now standing) ≡ 256) × (length (now content) ≡ 64) × (length (now wct) ≡ 64) × Rising (now wct) ⌝ }
+    requires { ⌜ Queued sheets (now owner) (now order) (now taken) × Onces (now order) (now place) (now taken) × (nodes ≤ 8) × (length (now standing) ≡ 256) × (length (now content) ≡ 64) × (length (now wct) ≡ 64) × Rising (now wct) × Behind (now order) (now standing) (now taken) (now gone) ⌝ }
     ensures { λ r. ⌜ ((placed : ℕ) (failed runs seen : List ℕ) → Steps (view (control nodes sheets placed (now (owner .entry)) (now (phase .entry)) failed runs (now (order .entry)) (now (place .entry)) (now (taken .entry))) (now (value .entry)) seen (now (mark .entry)) (now (claim .entry)) (now (standing .entry)) (now (content .entry)) (now (wct .entry))) (Apply n t) (view (control nodes sheets placed (now (owner .entry)) (now (phase .entry)) failed runs (now (order .entry)) (now (place .entry)) (now (taken .entry))) (now (value .entry)) seen (now (mark .entry)) (now (claim .entry)) (now (standing .exit)) (now (content .exit)) (now (wct .exit))) r) ⌝ }
-    ensures kept { λ _. ⌜ (length (now (standing .exit)) ≡ 256) × (length (now (content .exit)) ≡ 64) × (length (now (wct .exit)) ≡ 64) ⌝ }
+    ensures kept { λ _. ⌜ (length (now (standing .exit)) ≡ 256) × (length (now (content .exit)) ≡ 64) × (length (now (wct .exit)) ≡ 64) × Behind (now (order .entry)) (now (standing .exit)) (now (taken .entry)) (now (gone .exit)) ⌝ }
 {
     if nodes <= n {
         return Answer::Refused(4);
@@ -157,7 +185,12 @@ pub fn apply(
     let h = sheets::has_entry(sheets, owner, order, place, taken, claim, standing, n, t);
     if h {
         carry_out(owner, phase, value, mark, content, wct, n, ti);
-        standing[(n as usize) * Session::SAVES + ti] = 0;
+        let ni = n as usize;
+        standing[ni * Session::SAVES + ti] = 0;
+        let g = gone[ni];
+        let upto = taken[ni];
+        let b = behind(order, standing, ni, g, upto);
+        gone[ni] = b;
         return Answer::Accepted;
     }
     Answer::Refused(11)

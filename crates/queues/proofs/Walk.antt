@@ -6,7 +6,7 @@ use mathlib.Core.Logic.{_≢_}
 use mathlib.Core.List.{List, [], _∷_, _++_}
 use native.Mathlib.Omega.{arith}
 use native.Mathlib.Numerals.{add-one}
-use native.Mathlib.Nat.{le-refl, add-zero, zero-add}
+use native.Mathlib.Nat.{le-refl, add-zero, zero-add, sub-zero}
 use lib.ListN.{getD}
 use lib.Dec.{ltb, leb, eqb}
 use borrow.Author.Tests.{lt-ltb, le-ltb, ltb-true, ltb-false, eq-eqb, ne-eqb, le-leb}
@@ -33,6 +33,12 @@ module _ (a : ℕ → ℕ) (h : ℕ → Bool) (q upto : ℕ) where
   pub stop-end : upto ≤ q → stop a h q (upto - q) ≡ q
   unfolding stop
   stop-end l = let z : upto - q ≡ 0 = omega arith in rw z
+
+-- places whose saves do not pass the test are skipped
+pub stop-skip : (a : ℕ → ℕ) (h : ℕ → Bool) (upto g : ℕ) → g ≤ upto → ((q : ℕ) → q < g → h (a q) ≡ false) → stop a h 0 upto ≡ stop a h g (upto - g)
+stop-skip a h upto zero l e = rw sub-zero
+stop-skip a h upto (suc g) l e =
+    stop-skip a h upto g (omega arith) (λ q m. e q (omega arith)) ∙ (rw (add-one g) at (stop-on a h g upto (omega arith) (e g (omega arith))))
 
 stop-cong : (a : ℕ → ℕ) (h g : ℕ → Bool) (q m : ℕ) → ((p : ℕ) → p < q + m → h (a p) ≡ g (a p)) → stop a h q m ≡ stop a g q m
 unfolding stop

@@ -1,11 +1,12 @@
 // The tests that the commands make of queues. A queue is not stored: its entries are the saves at the places that its node has taken,
-// with their byte in `standing` set and a claim on the sheet. One walk over those places answers every test.
-ghost use Prim.Native.Nat.{ℕ, _<_};
+// with their byte in `standing` set and a claim on the sheet. One walk over those places answers every test; it starts past the places that
+// have no entry any more.
+ghost use Prim.Native.Nat.{ℕ, _≤_, _<_};
 ghost use mathlib.Core.Path.{_≡_};
 ghost use Rattle.rules.specs.Steps.{holds, at-front, before, x-on, granted-as};
 ghost use Rattle.state.specs.Places.{at};
 ghost use Rattle.state.specs.View.{claim-in, queue-in};
-ghost use Rattle.state.specs.Ready.{Once};
+ghost use Rattle.state.specs.Ready.{Once, Gone};
 ghost use Rattle.queues.specs.Walk.{halt-of, halts, stop, least-of, Walk};
 use state::Session;
 
@@ -29,20 +30,22 @@ fn halt(e: u8, c: u8, u: u8, t: u8, least: u8) -> bool
 }
 
 // The first of the first `upto` places whose save has an entry at sheet k of node n, and is t or claims `least` or more; upto if there is none.
+// The places before `from` have no entry.
 fn first(
     order: &[u8; Session::SAVES],
     standing: &[u8; Session::STANDING],
     claim: &[u8; Session::COPIES],
     n: usize,
     k: usize,
+    from: usize,
     upto: usize,
     t: u8,
     least: u8,
 ) -> usize
-    requires { ⌜ Walk (now order) n k upto ⌝ }
+    requires { ⌜ Walk (now order) n k upto × (from ≤ upto) × Gone (now order) (now standing) n from ⌝ }
     ensures { λ r. ⌜ r ≡ stop (at (now (order .entry))) (halts (now (standing .entry)) (now (claim .entry)) n k t least) 0 upto ⌝ }
 {
-    let mut q: usize = 0;
+    let mut q = from;
     while q < upto {
         let u = order[q];
         let ui = u as usize;
@@ -64,12 +67,13 @@ pub fn holds_x(
     claim: &[u8; Session::COPIES],
     n: usize,
     k: usize,
+    from: usize,
     upto: usize,
 ) -> bool
-    requires { ⌜ Walk (now order) n k upto ⌝ }
+    requires { ⌜ Walk (now order) n k upto × (from ≤ upto) × Gone (now order) (now standing) n from ⌝ }
     ensures { λ r. ⌜ ((place : ℕ → ℕ) → Once (now (order .entry)) place upto → r ≡ holds (x-on (claim-in (now (claim .entry))) k) (queue-in (now (order .entry)) place (now (standing .entry)) (now (claim .entry)) n k upto)) ⌝ }
 {
-    let q = first(order, standing, claim, n, k, upto, NO_SAVE, 2);
+    let q = first(order, standing, claim, n, k, from, upto, NO_SAVE, 2);
     q < upto
 }
 
@@ -80,12 +84,13 @@ pub fn front_x(
     claim: &[u8; Session::COPIES],
     n: usize,
     k: usize,
+    from: usize,
     upto: usize,
 ) -> bool
-    requires { ⌜ Walk (now order) n k upto ⌝ }
+    requires { ⌜ Walk (now order) n k upto × (from ≤ upto) × Gone (now order) (now standing) n from ⌝ }
     ensures { λ r. ⌜ ((place : ℕ → ℕ) → Once (now (order .entry)) place upto → r ≡ at-front (x-on (claim-in (now (claim .entry))) k) (queue-in (now (order .entry)) place (now (standing .entry)) (now (claim .entry)) n k upto)) ⌝ }
 {
-    let q = first(order, standing, claim, n, k, upto, NO_SAVE, 0);
+    let q = first(order, standing, claim, n, k, from, upto, NO_SAVE, 0);
     if upto <= q {
         return false;
     }
@@ -111,10 +116,11 @@ pub fn granted_at(
     claim: &[u8; Session::COPIES],
     n: usize,
     k: usize,
+    from: usize,
     upto: usize,
     t: u8,
 ) -> bool
-    requires { ⌜ Walk (now order) n k upto × (t < 32) ⌝ }
+    requires { ⌜ Walk (now order) n k upto × (from ≤ upto) × Gone (now order) (now standing) n from × (t < 32) ⌝ }
     ensures { λ r. ⌜ ((place : ℕ → ℕ) → Once (now (order .entry)) place upto → r ≡ granted-as (claim-in (now (claim .entry)) t k) (x-on (claim-in (now (claim .entry))) k) (before t (queue-in (now (order .entry)) place (now (standing .entry)) (now (claim .entry)) n k upto))) ⌝ }
 {
     let c = claim[(t as usize) * Session::SHEETS + k];
@@ -122,7 +128,7 @@ pub fn granted_at(
         return true;
     }
     let l = least(c);
-    let q = first(order, standing, claim, n, k, upto, t, l);
+    let q = first(order, standing, claim, n, k, from, upto, t, l);
     if upto <= q {
         return true;
     }

@@ -10,7 +10,7 @@ ghost use Rattle.rules.specs.State.{claims};
 ghost use Rattle.rules.specs.Steps.{has-taken, granted};
 ghost use Rattle.state.specs.View.{claim-in, control, view, no-tally, Steps};
 ghost use Rattle.state.specs.Fill.{fill};
-ghost use Rattle.state.specs.Ready.{Onces, Queued, Ready, Room, Runs};
+ghost use Rattle.state.specs.Ready.{Onces, Queued, Ready, Room, Runs, Behind};
 use state::Answer;
 use state::Session;
 use state::Stepped;
@@ -80,6 +80,7 @@ pub fn submit(
     requires { ⌜ (placed ≤ 32) × Room (now phase) placed × (length (now phase) ≡ 32) × (length (now order) ≡ 32) × (length (now place) ≡ 32) × (length (now claim) ≡ 2048) ⌝ }
     ensures { λ r. ⌜ ((nodes sheets : ℕ) (owner failed runs taken value seen standing content wct : List ℕ) → Ready (control nodes sheets placed owner (now (phase .entry)) failed runs (now (order .entry)) (now (place .entry)) taken) → Steps (view (control nodes sheets placed owner (now (phase .entry)) failed runs (now (order .entry)) (now (place .entry)) taken) value seen (now (mark .entry)) (now (claim .entry)) standing content wct) (Submit t) (view (control nodes sheets (r .placed) owner (now (phase .exit)) failed runs (now (order .exit)) (now (place .exit)) taken) value seen (now (mark .entry)) (now (claim .exit)) standing content wct) (r .answer)) ⌝ }
     ensures kept { λ r. ⌜ (r .placed ≤ 32) × (length (now (phase .exit)) ≡ 32) × (length (now (order .exit)) ≡ 32) × (length (now (place .exit)) ≡ 32) × (length (now (claim .exit)) ≡ 2048) ⌝ }
+    ensures behind { λ _. ⌜ ((standing taken gone : List ℕ) → ((n : ℕ) → getD taken n 0 ≤ placed) → Behind (now (order .entry)) standing taken gone → Behind (now (order .exit)) standing taken gone) ⌝ }
 {
     if 32 <= t {
         return Stepped {
@@ -132,18 +133,19 @@ fn decidable(
     order: &[u8; Session::SAVES],
     place: &[u8; Session::SAVES],
     taken: &[u8; Session::NODES],
+    gone: &[u8; Session::NODES],
     claim: &[u8; Session::COPIES],
     standing: &[u8; Session::STANDING],
     t: u8,
 ) -> bool
-    requires { ⌜ Queued sheets (now owner) (now order) (now taken) × Onces (now order) (now place) (now taken) × (t < 32) ⌝ }
+    requires { ⌜ Queued sheets (now owner) (now order) (now taken) × Onces (now order) (now place) (now taken) × (t < 32) × Behind (now order) (now standing) (now taken) (now gone) ⌝ }
     ensures { λ r. ⌜ r ≡ (all sheets (λ k. not (claims (claim-in (now (claim .entry)) t k)) || has-taken (view (control 0 sheets 0 (now (owner .entry)) [] [] [] [] (now (place .entry)) (now (taken .entry))) [] [] [] (now (claim .entry)) [] [] [] no-tally) (getD (now (owner .entry)) k 0) t) && all sheets (λ k. granted (view (control 0 sheets 0 (now (owner .entry)) [] [] [] (now (order .entry)) (now (place .entry)) (now (taken .entry))) [] [] [] (now (claim .entry)) (now (standing .entry)) [] [] no-tally) t k)) ⌝ }
 {
     let h = sheets::all_taken(sheets, owner, place, taken, claim, t);
     if !h {
         return false;
     }
-    sheets::all_granted(sheets, owner, order, taken, claim, standing, t)
+    sheets::all_granted(sheets, owner, order, taken, gone, claim, standing, t)
 }
 
 // A save that did not fail is committed, a failed one enters its second run.
@@ -156,12 +158,13 @@ pub fn decide(
     order: &[u8; Session::SAVES],
     place: &[u8; Session::SAVES],
     taken: &[u8; Session::NODES],
+    gone: &[u8; Session::NODES],
     mark: &mut [u8; Session::COPIES],
     claim: &[u8; Session::COPIES],
     standing: &[u8; Session::STANDING],
     t: u8,
 ) -> Answer
-    requires { ⌜ Queued sheets (now owner) (now order) (now taken) × Onces (now order) (now place) (now taken) × Runs (now runs) × (length (now phase) ≡ 32) × (length (now runs) ≡ 32) × (length (now mark) ≡ 2048) ⌝ }
+    requires { ⌜ Queued sheets (now owner) (now order) (now taken) × Onces (now order) (now place) (now taken) × Runs (now runs) × (length (now phase) ≡ 32) × (length (now runs) ≡ 32) × (length (now mark) ≡ 2048) × Behind (now order) (now standing) (now taken) (now gone) ⌝ }
     ensures { λ r. ⌜ ((nodes placed : ℕ) (value seen content wct : List ℕ) → Steps (view (control nodes sheets placed (now (owner .entry)) (now (phase .entry)) (now (failed .entry)) (now (runs .entry)) (now (order .entry)) (now (place .entry)) (now (taken .entry))) value seen (now (mark .entry)) (now (claim .entry)) (now (standing .entry)) content wct) (Decide t) (view (control nodes sheets placed (now (owner .entry)) (now (phase .exit)) (now (failed .entry)) (now (runs .exit)) (now (order .entry)) (now (place .entry)) (now (taken .entry))) value seen (now (mark .exit)) (now (claim .entry)) (now (standing .entry)) content wct) r) ⌝ }
     ensures kept { λ _. ⌜ (length (now (phase .exit)) ≡ 32) × (length (now (runs .exit)) ≡ 32) × (length (now (mark .exit)) ≡ 2048) ⌝ }
 {
@@ -173,7 +176,7 @@ pub fn decide(
     if p != 2 {
         return Answer::Refused(5);
     }
-    let g = decidable(sheets, owner, order, place, taken, claim, standing, t);
+    let g = decidable(sheets, owner, order, place, taken, gone, claim, standing, t);
     if !g {
         return Answer::Refused(10);
     }

@@ -3,6 +3,7 @@ ghost use mathlib.Core.Path.{_≡_};
 ghost use Rattle.rules.specs.State.{fresh};
 ghost use Rattle.wire.specs.Meaning.{opened, owners-of};
 ghost use Rattle.state.specs.View.{control, header-of, no-tally};
+ghost use Rattle.state.specs.Ready.{Behind};
 ghost use Rattle.wire.specs.declared.Opened.the-variants.{Header};
 ghost use Rattle.session.specs.Meaning.{refusal-in, reply-to};
 ghost use Rattle.session.specs.Looping.{arrays, shows, Sizes};
@@ -143,6 +144,7 @@ fn walk(
     order: &mut [u8; Session::SAVES],
     place: &mut [u8; Session::SAVES],
     taken: &mut [u8; Session::NODES],
+    gone: &mut [u8; Session::NODES],
     value: &mut [u32; Session::COPIES],
     seen: &mut [u32; Session::COPIES],
     mark: &mut [u8; Session::COPIES],
@@ -151,7 +153,7 @@ fn walk(
     content: &mut [u32; Session::SHEETS],
     wct: &mut [u32; Session::SHEETS],
 ) -> Walked
-    requires { ⌜ (Header nodes sheets ≡ opened (now session)) × Sizes (arrays (control nodes sheets 0 (now owner) (now phase) (now failed) (now runs) (now order) (now place) (now taken)) (now value) (now seen) (now mark) (now claim) (now standing) (now content) (now wct)) × (shows (arrays (control nodes sheets 0 (now owner) (now phase) (now failed) (now runs) (now order) (now place) (now taken)) (now value) (now seen) (now mark) (now claim) (now standing) (now content) (now wct)) no-tally ≡ fresh (header-of nodes sheets (owners-of (now session)))) ⌝ }
+    requires { ⌜ (Header nodes sheets ≡ opened (now session)) × Sizes (arrays (control nodes sheets 0 (now owner) (now phase) (now failed) (now runs) (now order) (now place) (now taken)) (now value) (now seen) (now mark) (now claim) (now standing) (now content) (now wct)) × (shows (arrays (control nodes sheets 0 (now owner) (now phase) (now failed) (now runs) (now order) (now place) (now taken)) (now value) (now seen) (now mark) (now claim) (now standing) (now content) (now wct)) no-tally ≡ fresh (header-of nodes sheets (owners-of (now session)))) × Behind (now order) (now standing) (now taken) (now gone) ⌝ }
     ensures { λ r. ⌜ Carried (now (session .entry)) (record { control = control nodes sheets (r .placed) (now (owner .entry)) (now (phase .exit)) (now (failed .exit)) (now (runs .exit)) (now (order .exit)) (now (place .exit)) (now (taken .exit)); content = now (content .exit); wct = now (wct .exit); tally = r .tally; last = reply-to (r .last); stop = r .stop }) ⌝ }
 {
     let mut placed: u8 = 0;
@@ -173,6 +175,7 @@ fn walk(
                     order,
                     place,
                     taken,
+                    gone,
                     value,
                     seen,
                     mark,
@@ -218,6 +221,7 @@ pub fn run(session: &[u8], nodes: u8, sheets: u8) -> Ended
     let mut order: [u8; Session::SAVES] = [0; Session::SAVES];
     let mut place: [u8; Session::SAVES] = [0; Session::SAVES];
     let mut taken: [u8; Session::NODES] = [0; Session::NODES];
+    let mut gone: [u8; Session::NODES] = [0; Session::NODES];
     let mut value: [u32; Session::COPIES] = [0; Session::COPIES];
     let mut seen: [u32; Session::COPIES] = [0; Session::COPIES];
     let mut mark: [u8; Session::COPIES] = [0; Session::COPIES];
@@ -236,6 +240,7 @@ pub fn run(session: &[u8], nodes: u8, sheets: u8) -> Ended
         &mut order,
         &mut place,
         &mut taken,
+        &mut gone,
         &mut value,
         &mut seen,
         &mut mark,

@@ -11,7 +11,7 @@ ghost use Rattle.rules.specs.State.{claims};
 ghost use Rattle.rules.specs.Steps.{granted, has-taken, finds-invalid, has-entry};
 ghost use Rattle.state.specs.Places.{at};
 ghost use Rattle.state.specs.View.{set?, claim-in, control, view, no-tally};
-ghost use Rattle.state.specs.Ready.{Once, Onces, Owners, Queued};
+ghost use Rattle.state.specs.Ready.{Once, Onces, Owners, Queued, Gone, Behind};
 ghost use Rattle.queues.specs.Walk.{Walk};
 ghost use Rattle.sheets.specs.Fails.{fails-in};
 use state::Session;
@@ -25,11 +25,12 @@ fn fails_at(
     wct: &[u32; Session::SHEETS],
     o: u8,
     n: u8,
+    from: usize,
     upto: usize,
     t: u8,
     k: usize,
 ) -> bool
-    requires { ⌜ Walk (now order) n k upto × (t < 32) ⌝ }
+    requires { ⌜ Walk (now order) n k upto × (from ≤ upto) × Gone (now order) (now standing) n from × (t < 32) ⌝ }
     ensures { λ r. ⌜ ((place : ℕ → ℕ) → Once (now (order .entry)) place upto → r ≡ (eqb o n && fails-in (now (order .entry)) place (now (seen .entry)) (now (claim .entry)) (now (standing .entry)) (now (wct .entry)) t k n upto)) ⌝ }
 {
     if o != n {
@@ -45,7 +46,7 @@ fn fails_at(
     if s < w {
         return true;
     }
-    queues::holds_x(order, standing, claim, n as usize, k, upto)
+    queues::holds_x(order, standing, claim, n as usize, k, from, upto)
 }
 
 // TAKE: node n finds save t invalid at one of its sheets.
@@ -54,6 +55,7 @@ pub fn finds_invalid(
     owner: &[u8; Session::SHEETS],
     order: &[u8; Session::SAVES],
     taken: &[u8; Session::NODES],
+    gone: &[u8; Session::NODES],
     seen: &[u32; Session::COPIES],
     claim: &[u8; Session::COPIES],
     standing: &[u8; Session::STANDING],
@@ -61,16 +63,17 @@ pub fn finds_invalid(
     n: u8,
     t: u8,
 ) -> bool
-    requires { ⌜ Queued sheets (now owner) (now order) (now taken) × (n < 8) × (t < 32) ⌝ }
+    requires { ⌜ Queued sheets (now owner) (now order) (now taken) × (n < 8) × (t < 32) × Behind (now order) (now standing) (now taken) (now gone) ⌝ }
     ensures { λ r. ⌜ ((place : List ℕ) → Onces (now (order .entry)) place (now (taken .entry)) → r ≡ finds-invalid (view (control 0 sheets 0 (now (owner .entry)) [] [] [] (now (order .entry)) place (now (taken .entry))) [] (now (seen .entry)) [] (now (claim .entry)) (now (standing .entry)) [] (now (wct .entry)) no-tally) n t) ⌝ }
 {
     let ni = n as usize;
+    let from = gone[ni] as usize;
     let upto = taken[ni] as usize;
     let mut k = sheets as usize;
     while 0 < k {
         k -= 1;
         let o = owner[k];
-        let b = fails_at(order, seen, claim, standing, wct, o, n, upto, t, k);
+        let b = fails_at(order, seen, claim, standing, wct, o, n, from, upto, t, k);
         if b {
             return true;
         }
@@ -122,19 +125,21 @@ pub fn all_granted(
     owner: &[u8; Session::SHEETS],
     order: &[u8; Session::SAVES],
     taken: &[u8; Session::NODES],
+    gone: &[u8; Session::NODES],
     claim: &[u8; Session::COPIES],
     standing: &[u8; Session::STANDING],
     t: u8,
 ) -> bool
-    requires { ⌜ Queued sheets (now owner) (now order) (now taken) × (t < 32) ⌝ }
+    requires { ⌜ Queued sheets (now owner) (now order) (now taken) × (t < 32) × Behind (now order) (now standing) (now taken) (now gone) ⌝ }
     ensures { λ r. ⌜ ((place : List ℕ) → Onces (now (order .entry)) place (now (taken .entry)) → r ≡ all sheets (λ k. granted (view (control 0 sheets 0 (now (owner .entry)) [] [] [] (now (order .entry)) place (now (taken .entry))) [] [] [] (now (claim .entry)) (now (standing .entry)) [] [] no-tally) t k)) ⌝ }
 {
     let mut k = sheets as usize;
     while 0 < k {
         k -= 1;
         let n = owner[k] as usize;
+        let from = gone[n] as usize;
         let upto = taken[n] as usize;
-        let g = queues::granted_at(order, standing, claim, n, k, upto, t);
+        let g = queues::granted_at(order, standing, claim, n, k, from, upto, t);
         if g {} else {
             return false;
         }

@@ -14,7 +14,7 @@ use Rattle.state.proofs.Steps.{same-state}
 abbrev Zero : List ℕ → Type 0
 Zero l = (i : ℕ) → _≡_ {A = ℕ} (getD l i 0) 0
 
-zeros : (n : ℕ) → Zero (replicate n 0)
+pub zeros : (n : ℕ) → Zero (replicate n 0)
 zeros zero i = refl
 zeros (suc n) zero = refl
 zeros (suc n) (suc i) = zeros n i

@@ -5,3 +5,4 @@ pub mod Places
 pub mod Steps
 pub mod Ready
 pub mod Fresh
+pub mod Behind

@@ -1,5 +1,5 @@
 -- What the commands may rely on.
-use Prim.Native.Nat.{ℕ, _≤_, _<_}
+use Prim.Native.Nat.{ℕ, _+_, _*_, _≤_, _<_}
 use mathlib.Core.Path.{_≡_}
 use mathlib.Core.Bool.{true, false}
 use mathlib.Core.Logic.{_≢_}
@@ -92,3 +92,15 @@ pub record Ready (d : Control) : Type 0 where
 -- a write counter can rise
 abbrev pub Rising : List ℕ → Type 0
 Rising wct = (k : ℕ) → getD wct k 0 < 4294967295
+
+-- ---- Where a walk may start
+
+-- the first g places have no entry at node n any more
+abbrev pub Gone : (order standing : List ℕ) → (n g : ℕ) → Type 0
+Gone order standing n g = (q : ℕ) → q < g → getD standing (n * 32 + at order q) 0 ≡ 0
+
+-- the places that each node has behind it are among those it has taken
+pub record Behind (order standing taken gone : List ℕ) : Type 0 where
+  pub size : length gone ≡ 8
+  pub within : (n : ℕ) → getD gone n 0 ≤ getD taken n 0
+  pub none : (n : ℕ) → Gone order standing n (getD gone n 0)

@@ -88,6 +88,7 @@ fn run() {
     let mut order = d.order;
     let mut place = d.place;
     let mut taken = d.taken;
+    let mut gone = [0u8; 8];
     let mut value = s.value;
     let mut seen = s.seen;
     let mut mark = s.mark;
@@ -109,6 +110,7 @@ fn run() {
             &mut order,
             &mut place,
             &mut taken,
+            &mut gone,
             &mut value,
             &mut seen,
             &mut mark,

@@ -80,24 +80,31 @@ element-copy-out-n c = let z = c .before .before .before .before .before .before
 cast-n : tie.Need-cast-n
 cast-n c = omega (arith, c .before .before .before .before .before .before .before .before .before .before .before .pre .0 .owners (c .before .before .before .before .before .before .before .before .before .before .before .args .k))
 
+element-copy-out-from : tie.Need-element-copy-out-from
+element-copy-out-from c = omega (arith, c .before .before .before .before .before .before .before .before .before .before .before .pre .0 .owners (c .before .before .before .before .before .before .before .before .before .before .before .args .k))
+
+cast-from : tie.Need-cast-from
+cast-from c = let m = getD (c .before .before .before .before .before .before .before .before .before .before .before .before .args .owner .now) (c .before .before .before .before .before .before .before .before .before .before .before .before .args .k) 0 in omega (arith, c .before .before .before .before .before .before .before .before .before .before .before .before .pre .0 .takens m, c .before .before .before .before .before .before .before .before .before .before .before .before .pre .4 .within m)
+
 element-copy-out-upto : tie.Need-element-copy-out-upto
-element-copy-out-upto c = omega (arith, c .before .before .before .before .before .before .before .before .before .before .before .pre .0 .owners (c .before .before .before .before .before .before .before .before .before .before .before .args .k))
+element-copy-out-upto c = omega (arith, c .before .before .before .before .before .before .before .before .before .before .before .before .pre .0 .owners (c .before .before .before .before .before .before .before .before .before .before .before .before .args .k))
 
 cast-upto : tie.Need-cast-upto
-cast-upto c = omega (arith, c .before .before .before .before .before .before .before .before .before .before .before .before .pre .0 .takens (getD (c .before .before .before .before .before .before .before .before .before .before .before .before .args .owner .now) (c .before .before .before .before .before .before .before .before .before .before .before .before .args .k) 0))
+cast-upto c = omega (arith, c .before .before .before .before .before .before .before .before .before .before .before .before .before .pre .0 .takens (getD (c .before .before .before .before .before .before .before .before .before .before .before .before .before .args .owner .now) (c .before .before .before .before .before .before .before .before .before .before .before .before .before .args .k) 0))
 
 blocked-requires : tie.Need-blocked-requires
 blocked-requires c κs =
-    let s = c .before .before .before .before .before .before .before .before .before .before .before .before in
-    walk-taken (s .pre .0) (getD (s .args .owner .now) (s .args .k) 0) (s .args .k) (s .pre .0 .owners (s .args .k)) (omega (arith, c .before .before .before .before .before .before .before .before .before .before .if2 .left, s .pre .0 .sheets64))
+    let s = c .before .before .before .before .before .before .before .before .before .before .before .before .before in
+    let m = getD (s .args .owner .now) (s .args .k) 0 in
+    (walk-taken (s .pre .0) m (s .args .k) (s .pre .0 .owners (s .args .k)) (omega (arith, c .before .before .before .before .before .before .before .before .before .before .before .if2 .left, s .pre .0 .sheets64)), s .pre .4 .within m, s .pre .4 .none m)
 
 returns-6 : tie.Need-returns-6
 returns-6 c =
-    let s = c .before .before .before .before .before .before .before .before .before .before .before .before .before .before in
+    let s = c .before .before .before .before .before .before .before .before .before .before .before .before .before .before .before in
     let a = s .args in (
       (λ nodes placed failed runs place once.
-          read-6 (control nodes (a .sheets) placed (a .owner .now) (a .phase .now) failed runs (a .order .now) place (a .taken .now)) (a .value .now) (a .seen .now) (a .mark .now) (a .claim .now) (a .standing .now) (a .content .now) (a .wct .now) (a .t) (a .k) (c .before .before .before .before .before .before .before .before .before .before .before .before .before .if1 .left) (c .before .before .before .before .before .before .before .before .before .before .before .before .if2 .left) (s .pre .0 .sheets64)
-          (sym (c .before .before .before .before .before .before .before .before .before .before .running .ensures) ∙ not-false _ (c .before .before .before .before .before .before .before .before .before .if3 .left)) (sym (c .before .before .before .before .before .before .before .readable .ensures) ∙ not-false _ (c .before .before .before .before .before .before .if4 .left)) (c .before .before .before .before .if5 .left) (sym (c .before .blocked .ensures (λ u. getD place u 0) (once (getD (a .owner .now) (a .k) 0))) ∙ c .if6 .taken)),
+          read-6 (control nodes (a .sheets) placed (a .owner .now) (a .phase .now) failed runs (a .order .now) place (a .taken .now)) (a .value .now) (a .seen .now) (a .mark .now) (a .claim .now) (a .standing .now) (a .content .now) (a .wct .now) (a .t) (a .k) (c .before .before .before .before .before .before .before .before .before .before .before .before .before .before .if1 .left) (c .before .before .before .before .before .before .before .before .before .before .before .before .before .if2 .left) (s .pre .0 .sheets64)
+          (sym (c .before .before .before .before .before .before .before .before .before .before .before .running .ensures) ∙ not-false _ (c .before .before .before .before .before .before .before .before .before .before .if3 .left)) (sym (c .before .before .before .before .before .before .before .before .readable .ensures) ∙ not-false _ (c .before .before .before .before .before .before .before .if4 .left)) (c .before .before .before .before .before .if5 .left) (sym (c .before .blocked .ensures (λ u. getD place u 0) (once (getD (a .owner .now) (a .k) 0))) ∙ c .if6 .taken)),
       search needs,
     )
 
@@ -130,11 +137,11 @@ element-write-mark c = search needs
 
 returns-7 : tie.Need-returns-7
 returns-7 c =
-    let s = c .before .before .before .before .before .before .before .before .before .before .before .before .before .before .before .before in
+    let s = c .before .before .before .before .before .before .before .before .before .before .before .before .before .before .before .before .before in
     let a = s .args in (
       (λ nodes placed failed runs place once.
-          read-new (control nodes (a .sheets) placed (a .owner .now) (a .phase .now) failed runs (a .order .now) place (a .taken .now)) (a .value .now) (a .seen .now) (a .mark .now) (a .claim .now) (a .standing .now) (a .content .now) (a .wct .now) (a .t) (a .k) (c .before .before .before .before .before .before .before .before .before .before .before .before .before .before .before .if1 .left) (c .before .before .before .before .before .before .before .before .before .before .before .before .before .before .if2 .left) (s .pre .0 .sheets64)
-          (sym (c .before .before .before .before .before .before .before .before .before .before .before .before .running .ensures) ∙ not-false _ (c .before .before .before .before .before .before .before .before .before .before .before .if3 .left)) (sym (c .before .before .before .before .before .before .before .before .before .readable .ensures) ∙ not-false _ (c .before .before .before .before .before .before .before .before .if4 .left)) (c .before .before .before .before .before .before .if5 .left) (sym (c .before .before .before .blocked .ensures (λ u. getD place u 0) (once (getD (a .owner .now) (a .k) 0))) ∙ c .before .before .if6 .left) (s .pre .1) (s .pre .2) (s .pre .3)),
+          read-new (control nodes (a .sheets) placed (a .owner .now) (a .phase .now) failed runs (a .order .now) place (a .taken .now)) (a .value .now) (a .seen .now) (a .mark .now) (a .claim .now) (a .standing .now) (a .content .now) (a .wct .now) (a .t) (a .k) (c .before .before .before .before .before .before .before .before .before .before .before .before .before .before .before .before .if1 .left) (c .before .before .before .before .before .before .before .before .before .before .before .before .before .before .before .if2 .left) (s .pre .0 .sheets64)
+          (sym (c .before .before .before .before .before .before .before .before .before .before .before .before .before .running .ensures) ∙ not-false _ (c .before .before .before .before .before .before .before .before .before .before .before .before .if3 .left)) (sym (c .before .before .before .before .before .before .before .before .before .before .readable .ensures) ∙ not-false _ (c .before .before .before .before .before .before .before .before .before .if4 .left)) (c .before .before .before .before .before .before .before .if5 .left) (sym (c .before .before .before .blocked .ensures (λ u. getD place u 0) (once (getD (a .owner .now) (a .k) 0))) ∙ c .before .before .if6 .left) (s .pre .1) (s .pre .2) (s .pre .3)),
       (rw length-set (s .pre .1), rw length-set (s .pre .2), rw length-set (s .pre .3)),
     )
 
@@ -158,6 +165,8 @@ read-spec =
     returns-5
     element-copy-out-n
     cast-n
+    element-copy-out-from
+    cast-from
     element-copy-out-upto
     cast-upto
     blocked-requires

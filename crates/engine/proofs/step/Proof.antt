@@ -21,11 +21,11 @@ enum-known-c-2 c = search needs
 
 read-requires : tie.Need-read-requires
 read-requires c κs =
-    let s = c .before .before .before .before .before .before .before .before .before .before .before .before .before in
+    let s = c .before .before .before .before .before .before .before .before .before .before .before .before .before .before in
     let a = s .args in
     let d = control (a .nodes) (a .sheets) (a .placed) (a .owner .now) (a .phase .now) (a .failed .now) (a .runs .now) (a .order .now) (a .place .now) (a .taken .now) in
     let r = ready d (a .value .now) (a .seen .now) (a .mark .now) (a .claim .now) (a .standing .now) (a .content .now) (a .wct .now) no-tally (s .pre .2) (s .pre .0) in
-    (queued d r, s .pre .1 .value, s .pre .1 .seen, s .pre .1 .mark)
+    (queued d r, s .pre .1 .value, s .pre .1 .seen, s .pre .1 .mark, s .pre .3)
 
 enum-known-c-3 : tie.Need-enum-known-c-3
 enum-known-c-3 c = search needs
@@ -49,33 +49,33 @@ enum-known-c-5 c = search needs
 
 take-requires : tie.Need-take-requires
 take-requires c κs =
-    let s = c .before .before .before .before .before .before .before .before .before .before in
+    let s = c .before .before .before .before .before .before .before .before .before .before .before in
     let a = s .args in
     let d = control (a .nodes) (a .sheets) (a .placed) (a .owner .now) (a .phase .now) (a .failed .now) (a .runs .now) (a .order .now) (a .place .now) (a .taken .now) in
     let r = ready d (a .value .now) (a .seen .now) (a .mark .now) (a .claim .now) (a .standing .now) (a .content .now) (a .wct .now) no-tally (s .pre .2) (s .pre .0) in
-    (queued d r, r .nodes8, s .pre .0 .fits, r .small, s .pre .0 .failed, s .pre .0 .taken, s .pre .1 .standing)
+    (queued d r, r .nodes8, s .pre .0 .fits, r .small, s .pre .0 .failed, s .pre .0 .taken, s .pre .1 .standing, s .pre .3)
 
 enum-known-c-6 : tie.Need-enum-known-c-6
 enum-known-c-6 c = search needs
 
 decide-requires : tie.Need-decide-requires
 decide-requires c κs =
-    let s = c .before .before .before .before .before .before .before .before .before .before .before .before in
+    let s = c .before .before .before .before .before .before .before .before .before .before .before .before .before in
     let a = s .args in
     let d = control (a .nodes) (a .sheets) (a .placed) (a .owner .now) (a .phase .now) (a .failed .now) (a .runs .now) (a .order .now) (a .place .now) (a .taken .now) in
     let r = ready d (a .value .now) (a .seen .now) (a .mark .now) (a .claim .now) (a .standing .now) (a .content .now) (a .wct .now) no-tally (s .pre .2) (s .pre .0) in
-    (queued d r, onces d r, r .runs, s .pre .0 .phase, s .pre .0 .runs, s .pre .1 .mark)
+    (queued d r, onces d r, r .runs, s .pre .0 .phase, s .pre .0 .runs, s .pre .1 .mark, s .pre .3)
 
 enum-known-c-7 : tie.Need-enum-known-c-7
 enum-known-c-7 c = search needs
 
 apply-requires : tie.Need-apply-requires
 apply-requires c κs =
-    let s = c .before .before .before .before .before .before .before .before .before .before .before .before .before in
+    let s = c .before .before .before .before .before .before .before .before .before .before .before .before .before .before in
     let a = s .args in
     let d = control (a .nodes) (a .sheets) (a .placed) (a .owner .now) (a .phase .now) (a .failed .now) (a .runs .now) (a .order .now) (a .place .now) (a .taken .now) in
     let r = ready d (a .value .now) (a .seen .now) (a .mark .now) (a .claim .now) (a .standing .now) (a .content .now) (a .wct .now) no-tally (s .pre .2) (s .pre .0) in
-    (queued d r, onces d r, r .nodes8, s .pre .1 .standing, s .pre .1 .content, s .pre .1 .wct, rising d (a .value .now) (a .seen .now) (a .mark .now) (a .claim .now) (a .standing .now) (a .content .now) (a .wct .now) no-tally (s .pre .2) (s .pre .1 .wct))
+    (queued d r, onces d r, r .nodes8, s .pre .1 .standing, s .pre .1 .content, s .pre .1 .wct, rising d (a .value .now) (a .seen .now) (a .mark .now) (a .claim .now) (a .standing .now) (a .content .now) (a .wct .now) no-tally (s .pre .2) (s .pre .1 .wct), s .pre .3)
 
 enum-known-c-8 : tie.Need-enum-known-c-8
 enum-known-c-8 c = search needs
@@ -90,19 +90,19 @@ returns c =
     let q = s .pre .0 in
     let z = s .pre .1 in (
       rw (c .before .before .before .before .c .given .1) (c .begin .ensures .0 (a .nodes) (a .sheets) (a .placed) (a .owner .now) (a .failed .now) (a .order .now) (a .place .now) (a .taken .now) (a .value .now) (a .seen .now) (a .mark .now) (a .claim .now) (a .standing .now) (a .content .now) (a .wct .now)),
-      (z, record { owner = q .owner; phase = c .begin .ensures .1 .0; failed = q .failed; runs = c .begin .ensures .1 .1; order = q .order; place = q .place; taken = q .taken; fits = q .fits }),
+      (z, record { owner = q .owner; phase = c .begin .ensures .1 .0; failed = q .failed; runs = c .begin .ensures .1 .1; order = q .order; place = q .place; taken = q .taken; fits = q .fits }, s .pre .3),
     )
 
 returns-2 : tie.Need-returns-2
 returns-2 c =
-    let s = c .before .before .before .before .before .before .before .before .before .before .before .before .before .before in
+    let s = c .before .before .before .before .before .before .before .before .before .before .before .before .before .before .before in
     let a = s .args in
     let q = s .pre .0 in
     let z = s .pre .1 in
     let d = control (a .nodes) (a .sheets) (a .placed) (a .owner .now) (a .phase .now) (a .failed .now) (a .runs .now) (a .order .now) (a .place .now) (a .taken .now) in
     let r = ready d (a .value .now) (a .seen .now) (a .mark .now) (a .claim .now) (a .standing .now) (a .content .now) (a .wct .now) no-tally (s .pre .2) (s .pre .0) in (
-      rw (c .before .before .before .before .before .before .before .before .before .before .before .before .c2 .given .1) (c .read .ensures .0 (a .nodes) (a .placed) (a .failed .now) (a .runs .now) (a .place .now) (onces d r)),
-      (record { value = c .read .ensures .1 .0; seen = c .read .ensures .1 .1; mark = c .read .ensures .1 .2; claim = z .claim; standing = z .standing; content = z .content; wct = z .wct }, q),
+      rw (c .before .before .before .before .before .before .before .before .before .before .before .before .before .c2 .given .1) (c .read .ensures .0 (a .nodes) (a .placed) (a .failed .now) (a .runs .now) (a .place .now) (onces d r)),
+      (record { value = c .read .ensures .1 .0; seen = c .read .ensures .1 .1; mark = c .read .ensures .1 .2; claim = z .claim; standing = z .standing; content = z .content; wct = z .wct }, q, s .pre .3),
     )
 
 returns-3 : tie.Need-returns-3
@@ -112,7 +112,7 @@ returns-3 c =
     let q = s .pre .0 in
     let z = s .pre .1 in (
       rw (c .before .before .before .before .before .before .c3 .given .1) (c .write .ensures .0 (a .nodes) (a .placed) (a .owner .now) (a .failed .now) (a .runs .now) (a .order .now) (a .place .now) (a .taken .now) (a .seen .now) (a .standing .now) (a .content .now) (a .wct .now)),
-      (record { value = c .write .ensures .1 .0; seen = z .seen; mark = c .write .ensures .1 .1; claim = z .claim; standing = z .standing; content = z .content; wct = z .wct }, q),
+      (record { value = c .write .ensures .1 .0; seen = z .seen; mark = c .write .ensures .1 .1; claim = z .claim; standing = z .standing; content = z .content; wct = z .wct }, q, s .pre .3),
     )
 
 returns-4 : tie.Need-returns-4
@@ -124,39 +124,39 @@ returns-4 c =
     let d = control (a .nodes) (a .sheets) (a .placed) (a .owner .now) (a .phase .now) (a .failed .now) (a .runs .now) (a .order .now) (a .place .now) (a .taken .now) in
     let r = ready d (a .value .now) (a .seen .now) (a .mark .now) (a .claim .now) (a .standing .now) (a .content .now) (a .wct .now) no-tally (s .pre .2) (s .pre .0) in (
       rw (c .before .before .before .before .before .before .before .c4 .given .1) (c .submit .ensures .0 (a .nodes) (a .sheets) (a .owner .now) (a .failed .now) (a .runs .now) (a .taken .now) (a .value .now) (a .seen .now) (a .standing .now) (a .content .now) (a .wct .now) r),
-      (record { value = z .value; seen = z .seen; mark = z .mark; claim = c .submit .ensures .1 .4; standing = z .standing; content = z .content; wct = z .wct }, record { owner = q .owner; phase = c .submit .ensures .1 .1; failed = q .failed; runs = q .runs; order = c .submit .ensures .1 .2; place = c .submit .ensures .1 .3; taken = q .taken; fits = c .submit .ensures .1 .0 }),
+      (record { value = z .value; seen = z .seen; mark = z .mark; claim = c .submit .ensures .1 .0 .4; standing = z .standing; content = z .content; wct = z .wct }, record { owner = q .owner; phase = c .submit .ensures .1 .0 .1; failed = q .failed; runs = q .runs; order = c .submit .ensures .1 .0 .2; place = c .submit .ensures .1 .0 .3; taken = q .taken; fits = c .submit .ensures .1 .0 .0 }, c .submit .ensures .1 .1 (a .standing .now) (a .taken .now) (a .gone .now) (r .takens) (s .pre .3)),
     )
 
 returns-5 : tie.Need-returns-5
 returns-5 c =
-    let s = c .before .before .before .before .before .before .before .before .before .before .before in
+    let s = c .before .before .before .before .before .before .before .before .before .before .before .before in
     let a = s .args in
     let q = s .pre .0 in
     let z = s .pre .1 in
     let d = control (a .nodes) (a .sheets) (a .placed) (a .owner .now) (a .phase .now) (a .failed .now) (a .runs .now) (a .order .now) (a .place .now) (a .taken .now) in
     let r = ready d (a .value .now) (a .seen .now) (a .mark .now) (a .claim .now) (a .standing .now) (a .content .now) (a .wct .now) no-tally (s .pre .2) (s .pre .0) in (
-      rw (c .before .before .before .before .before .before .before .before .before .c5 .given .1) (c .take .ensures .0 (a .phase .now) (a .runs .now) (a .place .now) (a .value .now) (a .mark .now) (a .content .now) r),
-      (record { value = z .value; seen = z .seen; mark = z .mark; claim = z .claim; standing = c .take .ensures .1 .2; content = z .content; wct = z .wct }, record { owner = q .owner; phase = q .phase; failed = c .take .ensures .1 .0; runs = q .runs; order = q .order; place = q .place; taken = c .take .ensures .1 .1; fits = q .fits }),
+      rw (c .before .before .before .before .before .before .before .before .before .before .c5 .given .1) (c .take .ensures .0 (a .phase .now) (a .runs .now) (a .place .now) (a .value .now) (a .mark .now) (a .content .now) r),
+      (record { value = z .value; seen = z .seen; mark = z .mark; claim = z .claim; standing = c .take .ensures .1 .0 .2; content = z .content; wct = z .wct }, record { owner = q .owner; phase = q .phase; failed = c .take .ensures .1 .0 .0; runs = q .runs; order = q .order; place = q .place; taken = c .take .ensures .1 .0 .1; fits = q .fits }, c .take .ensures .1 .1 (a .place .now) (r .once) (r .takens)),
     )
 
 returns-6 : tie.Need-returns-6
 returns-6 c =
-    let s = c .before .before .before .before .before .before .before .before .before .before .before .before .before in
-    let a = s .args in
-    let q = s .pre .0 in
-    let z = s .pre .1 in (
-      rw (c .before .before .before .before .before .before .before .before .before .before .before .c6 .given .1) (c .decide .ensures .0 (a .nodes) (a .placed) (a .value .now) (a .seen .now) (a .content .now) (a .wct .now)),
-      (record { value = z .value; seen = z .seen; mark = c .decide .ensures .1 .2; claim = z .claim; standing = z .standing; content = z .content; wct = z .wct }, record { owner = q .owner; phase = c .decide .ensures .1 .0; failed = q .failed; runs = c .decide .ensures .1 .1; order = q .order; place = q .place; taken = q .taken; fits = q .fits }),
-    )
-
-returns-7 : tie.Need-returns-7
-returns-7 c =
     let s = c .before .before .before .before .before .before .before .before .before .before .before .before .before .before in
     let a = s .args in
     let q = s .pre .0 in
     let z = s .pre .1 in (
-      rw (c .before .before .before .before .before .before .before .before .before .before .before .before .c7 .given .1) (c .apply .ensures .0 (a .placed) (a .failed .now) (a .runs .now) (a .seen .now)),
-      (record { value = z .value; seen = z .seen; mark = z .mark; claim = z .claim; standing = c .apply .ensures .1 .0; content = c .apply .ensures .1 .1; wct = c .apply .ensures .1 .2 }, q),
+      rw (c .before .before .before .before .before .before .before .before .before .before .before .before .c6 .given .1) (c .decide .ensures .0 (a .nodes) (a .placed) (a .value .now) (a .seen .now) (a .content .now) (a .wct .now)),
+      (record { value = z .value; seen = z .seen; mark = c .decide .ensures .1 .2; claim = z .claim; standing = z .standing; content = z .content; wct = z .wct }, record { owner = q .owner; phase = c .decide .ensures .1 .0; failed = q .failed; runs = c .decide .ensures .1 .1; order = q .order; place = q .place; taken = q .taken; fits = q .fits }, s .pre .3),
+    )
+
+returns-7 : tie.Need-returns-7
+returns-7 c =
+    let s = c .before .before .before .before .before .before .before .before .before .before .before .before .before .before .before in
+    let a = s .args in
+    let q = s .pre .0 in
+    let z = s .pre .1 in (
+      rw (c .before .before .before .before .before .before .before .before .before .before .before .before .before .c7 .given .1) (c .apply .ensures .0 (a .placed) (a .failed .now) (a .runs .now) (a .seen .now)),
+      (record { value = z .value; seen = z .seen; mark = z .mark; claim = z .claim; standing = c .apply .ensures .1 .0; content = c .apply .ensures .1 .1; wct = c .apply .ensures .1 .2 }, q, c .apply .ensures .1 .3),
     )
 
 returns-8 : tie.Need-returns-8
@@ -166,7 +166,7 @@ returns-8 c =
     let q = s .pre .0 in
     let z = s .pre .1 in (
       rw (c .before .before .before .c8 .given .1) (c .give-up .ensures .0 (a .nodes) (a .sheets) (a .placed) (a .owner .now) (a .failed .now) (a .runs .now) (a .order .now) (a .place .now) (a .taken .now) (a .value .now) (a .seen .now) (a .mark .now) (a .claim .now) (a .standing .now) (a .content .now) (a .wct .now)),
-      (z, record { owner = q .owner; phase = c .give-up .ensures .1; failed = q .failed; runs = q .runs; order = q .order; place = q .place; taken = q .taken; fits = q .fits }),
+      (z, record { owner = q .owner; phase = c .give-up .ensures .1; failed = q .failed; runs = q .runs; order = q .order; place = q .place; taken = q .taken; fits = q .fits }, s .pre .3),
     )
 
 pub step-spec : {M : Type 1} → statement M

@@ -1,4 +1,5 @@
 -- A refusal for each test, and the effect.
+use Prim.Native.Nat.{_+_, _*_}
 use mathlib.Core.Path.{sym, _∙_}
 use native.Mathlib.Omega.{arith}
 use borrow.Author.Tests.{lt-ltb, le-ltb}
@@ -6,16 +7,17 @@ use lib.ListN.{length-set}
 use Rattle.state.specs.View.{control}
 use Rattle.state.proofs.Stores.{length-fill}
 use Rattle.state.proofs.Steps.{refused}
+use Rattle.state.proofs.Behind.{behind-left, behind-on}
 use Rattle.nodes.proofs.Leaves.{apply-steps, apply-5, apply-11}
 use borrow.Author.Needs.{needs}
 use Rattle.nodes.proofs.apply.Statement.{statement}
 use Rattle.nodes.proofs.apply.Tie as tie
 
 returns : tie.Need-returns
-returns c = ((λ placed failed runs seen. refused (λ tally. simp (le-ltb _ _ (c .if1 .taken)))), search needs)
+returns c = ((λ placed failed runs seen. refused (λ tally. simp (le-ltb _ _ (c .if1 .taken)))), (c .before .pre .3, c .before .pre .4, c .before .pre .5, c .before .pre .7))
 
 returns-2 : tie.Need-returns-2
-returns-2 c = ((λ placed failed runs seen. refused (λ tally. simp (lt-ltb _ _ (c .before .if1 .left), le-ltb _ _ (c .if2 .taken)))), search needs)
+returns-2 c = ((λ placed failed runs seen. refused (λ tally. simp (lt-ltb _ _ (c .before .if1 .left), le-ltb _ _ (c .if2 .taken)))), (c .before .before .pre .3, c .before .before .pre .4, c .before .before .pre .5, c .before .before .pre .7))
 
 element-copy-out-p : tie.Need-element-copy-out-p
 element-copy-out-p c = search needs
@@ -24,7 +26,7 @@ returns-3 : tie.Need-returns-3
 returns-3 c =
     let s = c .before .before .before .before in
     let a = s .args in
-    ((λ placed failed runs seen. apply-5 (control (a .nodes) (a .sheets) placed (a .owner .now) (a .phase .now) failed runs (a .order .now) (a .place .now) (a .taken .now)) (a .value .now) seen (a .mark .now) (a .claim .now) (a .standing .now) (a .content .now) (a .wct .now) (a .n) (a .t) (s .pre .0 .small) (c .before .before .if2 .left) (s .pre .3) (omega (arith, s .pre .2, c .before .before .before .if1 .left)) (c .before .before .before .if1 .left) (c .if3 .taken)), search needs)
+    ((λ placed failed runs seen. apply-5 (control (a .nodes) (a .sheets) placed (a .owner .now) (a .phase .now) failed runs (a .order .now) (a .place .now) (a .taken .now)) (a .value .now) seen (a .mark .now) (a .claim .now) (a .standing .now) (a .content .now) (a .wct .now) (a .n) (a .t) (s .pre .0 .small) (c .before .before .if2 .left) (s .pre .3) (omega (arith, s .pre .2, c .before .before .before .if1 .left)) (c .before .before .before .if1 .left) (c .if3 .taken)), (s .pre .3, s .pre .4, s .pre .5, s .pre .7))
 
 has-entry-requires : tie.Need-has-entry-requires
 has-entry-requires c κs = (c .before .before .before .before .before .pre .0, c .before .before .before .before .before .pre .1, omega (arith, c .before .before .before .before .before .pre .2), search needs)
@@ -41,22 +43,42 @@ add-standing c = omega (arith, c .before .before .before .before .before .before
 element-write-standing : tie.Need-element-write-standing
 element-write-standing c = omega (arith, c .before .before .before .before .before .before .before .before .before .before .pre .2)
 
+element-copy-out-g : tie.Need-element-copy-out-g
+element-copy-out-g c = omega (arith, c .before .before .before .before .before .before .before .before .before .before .pre .2)
+
+element-copy-out-upto : tie.Need-element-copy-out-upto
+element-copy-out-upto c = omega (arith, c .before .before .before .before .before .before .before .before .before .before .before .pre .2)
+
+behind-requires : tie.Need-behind-requires
+behind-requires c κs =
+    let s = c .before .before .before .before .before .before .before .before .before .before .before .before .before in
+    let a = s .args in
+    (omega (arith, s .pre .2, c .before .before .before .before .before .before .before .before .before .before .before .before .if1 .left), s .pre .7 .within (a .n), s .pre .0 .takens (a .n), s .pre .0 .small (a .n), behind-left (s .pre .7) (a .n * 32 + a .t) (rw (s .pre .3) (omega (arith, s .pre .2, c .before .before .before .before .before .before .before .before .before .before .before .before .if1 .left, c .before .before .before .before .before .before .before .before .before .before .before .if2 .left))) .none (a .n))
+
+element-write-gone : tie.Need-element-write-gone
+element-write-gone c = omega (arith, c .before .before .before .before .before .before .before .before .before .before .before .before .before .before .pre .2, c .before .before .before .before .before .before .before .before .before .before .before .before .before .before .pre .7 .size)
+
 returns-4 : tie.Need-returns-4
 returns-4 c =
-    let s = c .before .before .before .before .before .before .before .before .before .before in
+    let s = c .before .before .before .before .before .before .before .before .before .before .before .before .before .before in
     let a = s .args in (
       (λ placed failed runs seen.
-          rw (c .carry-out .ensures .0, c .carry-out .ensures .1)
-          (apply-steps (control (a .nodes) (a .sheets) placed (a .owner .now) (a .phase .now) failed runs (a .order .now) (a .place .now) (a .taken .now)) (a .value .now) seen (a .mark .now) (a .claim .now) (a .standing .now) (a .content .now) (a .wct .now) (a .n) (a .t) (s .pre .0 .small) (c .before .before .before .before .before .before .before .before .if2 .left) (s .pre .3) (omega (arith, s .pre .2, c .before .before .before .before .before .before .before .before .before .if1 .left))
-          (c .before .before .before .before .before .before .before .before .before .if1 .left) (c .before .before .before .before .before .before .if3 .left) (s .pre .4) (s .pre .5) (sym (c .before .before .before .if4 .taken) ∙ c .before .before .before .before .has-entry .ensures))),
-      (rw length-set (s .pre .3), rw (c .carry-out .ensures .0, length-fill) (s .pre .4), rw (c .carry-out .ensures .1, length-fill) (s .pre .5)),
+          rw (c .before .before .before .before .carry-out .ensures .0, c .before .before .before .before .carry-out .ensures .1)
+          (apply-steps (control (a .nodes) (a .sheets) placed (a .owner .now) (a .phase .now) failed runs (a .order .now) (a .place .now) (a .taken .now)) (a .value .now) seen (a .mark .now) (a .claim .now) (a .standing .now) (a .content .now) (a .wct .now) (a .n) (a .t) (s .pre .0 .small) (c .before .before .before .before .before .before .before .before .before .before .before .before .if2 .left) (s .pre .3) (omega (arith, s .pre .2, c .before .before .before .before .before .before .before .before .before .before .before .before .before .if1 .left))
+          (c .before .before .before .before .before .before .before .before .before .before .before .before .before .if1 .left) (c .before .before .before .before .before .before .before .before .before .before .if3 .left) (s .pre .4) (s .pre .5) (sym (c .before .before .before .before .before .before .before .if4 .taken) ∙ c .before .before .before .before .before .before .before .before .has-entry .ensures))),
+      (
+        rw length-set (s .pre .3),
+        rw (c .before .before .before .before .carry-out .ensures .0, length-fill) (s .pre .4),
+        rw (c .before .before .before .before .carry-out .ensures .1, length-fill) (s .pre .5),
+        behind-on (behind-left (s .pre .7) (a .n * 32 + a .t) (rw (s .pre .3) (omega (arith, s .pre .2, c .before .before .before .before .before .before .before .before .before .before .before .before .before .if1 .left, c .before .before .before .before .before .before .before .before .before .before .before .before .if2 .left)))) (a .n) (c .behind .result) (omega (arith, s .pre .2, c .before .before .before .before .before .before .before .before .before .before .before .before .before .if1 .left)) (c .behind .ensures .0) (c .behind .ensures .1),
+      ),
     )
 
 returns-5 : tie.Need-returns-5
 returns-5 c =
     let s = c .before .before .before .before .before .before .before in
     let a = s .args in
-    ((λ placed failed runs seen. apply-11 (control (a .nodes) (a .sheets) placed (a .owner .now) (a .phase .now) failed runs (a .order .now) (a .place .now) (a .taken .now)) (a .value .now) seen (a .mark .now) (a .claim .now) (a .standing .now) (a .content .now) (a .wct .now) (a .n) (a .t) (s .pre .0 .small) (c .before .before .before .before .before .if2 .left) (s .pre .3) (omega (arith, s .pre .2, c .before .before .before .before .before .before .if1 .left)) (c .before .before .before .before .before .before .if1 .left) (c .before .before .before .if3 .left) (sym (c .if4 .left) ∙ c .before .has-entry .ensures)), search needs)
+    ((λ placed failed runs seen. apply-11 (control (a .nodes) (a .sheets) placed (a .owner .now) (a .phase .now) failed runs (a .order .now) (a .place .now) (a .taken .now)) (a .value .now) seen (a .mark .now) (a .claim .now) (a .standing .now) (a .content .now) (a .wct .now) (a .n) (a .t) (s .pre .0 .small) (c .before .before .before .before .before .if2 .left) (s .pre .3) (omega (arith, s .pre .2, c .before .before .before .before .before .before .if1 .left)) (c .before .before .before .before .before .before .if1 .left) (c .before .before .before .if3 .left) (sym (c .if4 .left) ∙ c .before .has-entry .ensures)), (s .pre .3, s .pre .4, s .pre .5, s .pre .7))
 
 pub apply-spec : {M : Type 1} → statement M
 apply-spec =
@@ -71,5 +93,9 @@ apply-spec =
     mul-standing
     add-standing
     element-write-standing
+    element-copy-out-g
+    element-copy-out-upto
+    behind-requires
+    element-write-gone
     returns-4
     returns-5)

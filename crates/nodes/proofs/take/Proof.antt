@@ -5,6 +5,7 @@ use lib.ListN.{getD, length-set}
 use borrow.Author.Tests.{le-ltb}
 use Rattle.state.specs.View.{control}
 use Rattle.state.proofs.Ready.{onces}
+use Rattle.state.proofs.Behind.{behind-taken}
 use Rattle.state.proofs.Steps.{refused}
 use Rattle.nodes.proofs.Joins.{take-9, take-invalid, take-valid}
 use borrow.Author.Needs.{needs}
@@ -12,7 +13,7 @@ use Rattle.nodes.proofs.take.Statement.{statement}
 use Rattle.nodes.proofs.take.Tie as tie
 
 returns : tie.Need-returns
-returns c = ((λ phase runs place value mark content ready. refused (λ tally. simp (le-ltb _ _ (c .if1 .taken)))), search needs)
+returns c = ((λ phase runs place value mark content ready. refused (λ tally. simp (le-ltb _ _ (c .if1 .taken)))), (search needs, λ place once h. c .before .pre .7))
 
 element-copy-out-p : tie.Need-element-copy-out-p
 element-copy-out-p c = search needs
@@ -21,7 +22,7 @@ returns-2 : tie.Need-returns-2
 returns-2 c =
     let s = c .before .before .before in
     let a = s .args in
-    ((λ phase runs place value mark content ready. take-9 (control (a .nodes) (a .sheets) (a .placed) (a .owner .now) phase (a .failed .now) runs (a .order .now) place (a .taken .now)) ready value (a .seen .now) mark (a .claim .now) (a .standing .now) content (a .wct .now) (a .n) (c .before .before .if1 .left) (c .if2 .taken)), search needs)
+    ((λ phase runs place value mark content ready. take-9 (control (a .nodes) (a .sheets) (a .placed) (a .owner .now) phase (a .failed .now) runs (a .order .now) place (a .taken .now)) ready value (a .seen .now) mark (a .claim .now) (a .standing .now) content (a .wct .now) (a .n) (c .before .before .if1 .left) (c .if2 .taken)), (search needs, λ place once h. s .pre .7))
 
 cast-pi : tie.Need-cast-pi
 cast-pi c = omega (arith, c .before .before .before .pre .0 .takens (c .before .before .before .args .n))
@@ -33,7 +34,7 @@ cast-ti : tie.Need-cast-ti
 cast-ti c = omega (arith, c .before .before .before .before .pre .3 (getD (c .before .before .before .before .args .taken .now) (c .before .before .before .before .args .n) 0) (c .before .if2 .left))
 
 finds-invalid-requires : tie.Need-finds-invalid-requires
-finds-invalid-requires c κs = (c .before .before .before .before .before .before .pre .0, omega (arith, c .before .before .before .before .before .before .pre .1), c .before .before .before .before .before .before .pre .3 (getD (c .before .before .before .before .before .before .args .taken .now) (c .before .before .before .before .before .before .args .n) 0) (c .before .before .before .if2 .left))
+finds-invalid-requires c κs = (c .before .before .before .before .before .before .pre .0, omega (arith, c .before .before .before .before .before .before .pre .1), c .before .before .before .before .before .before .pre .3 (getD (c .before .before .before .before .before .before .args .taken .now) (c .before .before .before .before .before .before .args .n) 0) (c .before .before .before .if2 .left), c .before .before .before .before .before .before .pre .7)
 
 mul-standing : tie.Need-mul-standing
 mul-standing c = search needs
@@ -60,7 +61,7 @@ returns-3 c =
       (λ phase runs place value mark content ready.
           take-invalid (control (a .nodes) (a .sheets) (a .placed) (a .owner .now) phase (a .failed .now) runs (a .order .now) place (a .taken .now)) ready (a .claim .now) (a .standing .now) (a .n) (omega (arith, s .pre .1, c .before .before .before .before .before .before .before .if1 .left)) (s .pre .6) (c .before .before .before .before .before .if2 .left) value (a .seen .now) mark content (a .wct .now)
           (c .before .before .before .before .before .before .before .if1 .left) (sym (c .if3 .taken) ∙ c .before .finds-invalid .ensures place (onces (control (a .nodes) (a .sheets) (a .placed) (a .owner .now) phase (a .failed .now) runs (a .order .now) place (a .taken .now)) ready))),
-      (rw length-set (s .pre .4), rw length-set (s .pre .5), rw length-set (s .pre .6)),
+      ((rw length-set (s .pre .4), rw length-set (s .pre .5), rw length-set (s .pre .6)), (λ place once h. behind-taken (s .pre .7) (λ u. getD place u 0) (a .placed) (a .n) 1 once (s .pre .3) h (c .before .before .before .before .before .if2 .left) (rw (s .pre .5) (omega (arith, s .pre .1, c .before .before .before .before .before .before .before .if1 .left))))),
     )
 
 returns-4 : tie.Need-returns-4
@@ -70,7 +71,7 @@ returns-4 c =
       (λ phase runs place value mark content ready.
           take-valid (control (a .nodes) (a .sheets) (a .placed) (a .owner .now) phase (a .failed .now) runs (a .order .now) place (a .taken .now)) ready (a .claim .now) (a .standing .now) (a .n) (omega (arith, s .pre .1, c .before .before .before .before .before .before .before .if1 .left)) (s .pre .6) (c .before .before .before .before .before .if2 .left) value (a .seen .now) mark content (a .wct .now)
           (c .before .before .before .before .before .before .before .if1 .left) (sym (c .if3 .left) ∙ c .before .finds-invalid .ensures place (onces (control (a .nodes) (a .sheets) (a .placed) (a .owner .now) phase (a .failed .now) runs (a .order .now) place (a .taken .now)) ready))),
-      (s .pre .4, rw length-set (s .pre .5), rw length-set (s .pre .6)),
+      ((s .pre .4, rw length-set (s .pre .5), rw length-set (s .pre .6)), (λ place once h. behind-taken (s .pre .7) (λ u. getD place u 0) (a .placed) (a .n) 1 once (s .pre .3) h (c .before .before .before .before .before .if2 .left) (rw (s .pre .5) (omega (arith, s .pre .1, c .before .before .before .before .before .before .before .if1 .left))))),
     )
 
 pub take-spec : {M : Type 1} → statement M

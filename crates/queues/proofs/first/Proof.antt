@@ -1,7 +1,6 @@
 use Rattle.queues.specs.Walk.{stop, halts}
-use Rattle.queues.proofs.Walk.{stop-here, stop-on, stop-end}
+use Rattle.queues.proofs.Walk.{stop-skip, stop-here, stop-on, stop-end}
 use Rattle.state.specs.Places.{at}
-use native.Mathlib.Nat.{sub-zero}
 use native.Mathlib.Omega.{arith}
 use Prim.Native.Nat.{_-_, _≤_}
 use mathlib.Core.Path.{_≡_, sym, _∙_}
@@ -10,37 +9,39 @@ use Rattle.queues.proofs.first.Statement.{statement}
 use Rattle.queues.proofs.first.Tie as tie
 
 abbrev Inv-loop : tie.InvT-loop
-Inv-loop order standing claim n k upto t least q₀ q = (q ≤ upto) × (stop (at order) (halts standing claim n k t least) 0 upto ≡ stop (at order) (halts standing claim n k t least) q (upto - q))
+Inv-loop order standing claim n k from upto t least q₀ q = (q ≤ upto) × (stop (at order) (halts standing claim n k t least) 0 upto ≡ stop (at order) (halts standing claim n k t least) q (upto - q))
 
 abbrev μ-loop : tie.MeasureT-loop
-μ-loop order standing claim n k upto t least q₀ q = upto - q
+μ-loop order standing claim n k from upto t least q₀ q = upto - q
 
 loop-holds : tie.Need-loop-holds Inv-loop μ-loop
-loop-holds c = (search needs, rw sub-zero)
+loop-holds c =
+    let a = c .args in
+    (c .pre .1, stop-skip (at (a .order .now)) (halts (a .standing .now) (a .claim .now) (a .n) (a .k) (a .t) (a .least)) (a .upto) (a .from) (c .pre .1) (λ q l. rw (c .pre .2 q l)))
 
 element-copy-out-u : tie.Need-element-copy-out-u Inv-loop μ-loop
 element-copy-out-u c = search needs
 
 cast-ui : tie.Need-cast-ui Inv-loop μ-loop
-cast-ui c = omega (arith, c .before .before .before .pre .small (c .before .before .loop .q) (c .before .loop-test .taken))
+cast-ui c = omega (arith, c .before .before .before .pre .0 .small (c .before .before .loop .q) (c .before .loop-test .taken))
 
 mul-e : tie.Need-mul-e Inv-loop μ-loop
-mul-e c = omega (arith, c .before .before .before .pre .small (c .before .before .loop .q) (c .before .loop-test .taken))
+mul-e c = omega (arith, c .before .before .before .pre .0 .small (c .before .before .loop .q) (c .before .loop-test .taken))
 
 add-e : tie.Need-add-e Inv-loop μ-loop
-add-e c = omega (arith, c .before .before .before .pre .small (c .before .before .loop .q) (c .before .loop-test .taken))
+add-e c = omega (arith, c .before .before .before .pre .0 .small (c .before .before .loop .q) (c .before .loop-test .taken))
 
 element-copy-out-e : tie.Need-element-copy-out-e Inv-loop μ-loop
-element-copy-out-e c = omega (arith, c .before .before .before .pre .small (c .before .before .loop .q) (c .before .loop-test .taken))
+element-copy-out-e c = omega (arith, c .before .before .before .pre .0 .small (c .before .before .loop .q) (c .before .loop-test .taken))
 
 mul-c : tie.Need-mul-c Inv-loop μ-loop
-mul-c c = omega (arith, c .before .before .before .before .pre .small (c .before .before .before .loop .q) (c .before .before .loop-test .taken))
+mul-c c = omega (arith, c .before .before .before .before .pre .0 .small (c .before .before .before .loop .q) (c .before .before .loop-test .taken))
 
 add-c : tie.Need-add-c Inv-loop μ-loop
-add-c c = omega (arith, c .before .before .before .before .pre .small (c .before .before .before .loop .q) (c .before .before .loop-test .taken))
+add-c c = omega (arith, c .before .before .before .before .pre .0 .small (c .before .before .before .loop .q) (c .before .before .loop-test .taken))
 
 element-copy-out-c : tie.Need-element-copy-out-c Inv-loop μ-loop
-element-copy-out-c c = omega (arith, c .before .before .before .before .pre .small (c .before .before .before .loop .q) (c .before .before .loop-test .taken))
+element-copy-out-c c = omega (arith, c .before .before .before .before .pre .0 .small (c .before .before .before .loop .q) (c .before .before .loop-test .taken))
 
 halt-requires : tie.Need-halt-requires Inv-loop μ-loop
 halt-requires c κs = search needs

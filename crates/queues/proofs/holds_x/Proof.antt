@@ -12,7 +12,7 @@ returns : tie.Need-returns
 returns c =
     let s = c .before in
     let a = s .args in
-    λ place once. rw (c .first .ensures) (sym (queue-holds-x (a .order .now) place (a .standing .now) (a .claim .now) (a .n) (a .k) (a .upto) (s .pre) once))
+    λ place once. rw (c .first .ensures) (sym (queue-holds-x (a .order .now) place (a .standing .now) (a .claim .now) (a .n) (a .k) (a .upto) (s .pre .0) once))
 
 pub holds-x-spec : {M : Type 1} → statement M
 holds-x-spec = tie.close (tie.spec first-requires returns)

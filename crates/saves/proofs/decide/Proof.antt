@@ -24,7 +24,7 @@ returns-2 c =
     ((λ nodes placed value seen content wct. decide-5 (control nodes (a .sheets) placed (a .owner .now) (a .phase .now) (a .failed .now) (a .runs .now) (a .order .now) (a .place .now) (a .taken .now)) value seen (a .mark .now) (a .claim .now) (a .standing .now) content wct (a .t) (c .before .before .if1 .left) (c .if2 .taken)), search needs)
 
 decidable-requires : tie.Need-decidable-requires
-decidable-requires c κs = (c .before .before .before .pre .0, c .before .before .before .pre .1, c .before .before .if1 .left)
+decidable-requires c κs = (c .before .before .before .pre .0, c .before .before .before .pre .1, c .before .before .if1 .left, c .before .before .before .pre .6)
 
 returns-3 : tie.Need-returns-3
 returns-3 c =

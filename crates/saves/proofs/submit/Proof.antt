@@ -1,5 +1,6 @@
 -- A refusal for each test, and the effect in each run.
 use native.Mathlib.Omega.{arith}
+use Rattle.state.proofs.Behind.{behind-placed}
 use lib.ListN.{length-set}
 use borrow.Author.Tests.{le-ltb}
 use Rattle.state.specs.View.{control}
@@ -12,7 +13,7 @@ use Rattle.saves.proofs.submit.Statement.{statement}
 use Rattle.saves.proofs.submit.Tie as tie
 
 returns : tie.Need-returns
-returns c = ((λ nodes sheets owner failed runs taken value seen standing content wct ready. refused (λ tally. simp (le-ltb _ _ (c .if1 .taken)))), search needs)
+returns c = ((λ nodes sheets owner failed runs taken value seen standing content wct ready. refused (λ tally. simp (le-ltb _ _ (c .if1 .taken)))), (search needs, λ standing taken gone h b. b))
 
 element-copy-out-p : tie.Need-element-copy-out-p
 element-copy-out-p c = search needs
@@ -43,7 +44,7 @@ returns-2 c =
     let room = s .pre .1 (a .t) t32 first in (
       (λ nodes sheets owner failed runs taken value seen standing content wct ready.
           rw (c .claim-row .ensures) (submit-first (control nodes sheets (a .placed) owner (a .phase .now) failed runs (a .order .now) (a .place .now) taken) (a .mark .now) (a .claim .now) (a .t) t32 first ready value seen standing content wct (s .pre .5))),
-      (omega arith, rw length-set (s .pre .2), rw length-set (s .pre .3), rw length-set (s .pre .4), rw (c .claim-row .ensures, length-fill) (s .pre .5)),
+      ((omega arith, rw length-set (s .pre .2), rw length-set (s .pre .3), rw length-set (s .pre .4), rw (c .claim-row .ensures, length-fill) (s .pre .5)), λ standing taken gone h b. behind-placed b (a .placed) (a .t) h),
     )
 
 element-write-phase-2 : tie.Need-element-write-phase-2
@@ -54,14 +55,14 @@ returns-3 c =
     let s = c .before .before .before .before in
     let a = s .args in (
       (λ nodes sheets owner failed runs taken value seen standing content wct ready. submit-second (control nodes sheets (a .placed) owner (a .phase .now) failed runs (a .order .now) (a .place .now) taken) value seen (a .mark .now) (a .claim .now) standing content wct (a .t) (c .before .before .before .if1 .left) (s .pre .2) (c .if3 .taken)),
-      (s .pre .0, rw length-set (s .pre .2), s .pre .3, s .pre .4, s .pre .5),
+      ((s .pre .0, rw length-set (s .pre .2), s .pre .3, s .pre .4, s .pre .5), λ standing taken gone h b. b),
     )
 
 returns-4 : tie.Need-returns-4
 returns-4 c =
     let s = c .before .before .before .before in
     let a = s .args in
-    ((λ nodes sheets owner failed runs taken value seen standing content wct ready. submit-5 (control nodes sheets (a .placed) owner (a .phase .now) failed runs (a .order .now) (a .place .now) taken) value seen (a .mark .now) (a .claim .now) standing content wct (a .t) (c .before .before .before .if1 .left) (c .before .if2 .left) (c .if3 .left)), search needs)
+    ((λ nodes sheets owner failed runs taken value seen standing content wct ready. submit-5 (control nodes sheets (a .placed) owner (a .phase .now) failed runs (a .order .now) (a .place .now) taken) value seen (a .mark .now) (a .claim .now) standing content wct (a .t) (c .before .before .before .if1 .left) (c .before .if2 .left) (c .if3 .left)), (search needs, λ standing taken gone h b. b))
 
 pub submit-spec : {M : Type 1} → statement M
 submit-spec =

@@ -5,6 +5,7 @@ use native.Mathlib.Omega.{arith}
 use lib.ListN.{length}
 use Rattle.tally.specs.Figures.{figures}
 use Rattle.state.specs.View.{control, no-tally}
+use Rattle.state.specs.Ready.{Behind}
 use Rattle.session.specs.Meaning.{reply-to}
 use Rattle.session.specs.Looping.{arrays, Sizes, Looping}
 use Rattle.session.proofs.Needs.{opening, starts, ready, room, fits, goes-on, stops, at-unknown, at-cut, at-end, done}
@@ -13,11 +14,12 @@ use Rattle.session.proofs.walk.Statement.{statement}
 use Rattle.session.proofs.walk.Tie as tie
 
 abbrev Inv-loop : tie.InvT-loop
-Inv-loop session nodes sheets owner phase₀ failed₀ runs₀ order₀ place₀ taken₀ value₀ seen₀ mark₀ claim₀ standing₀ content₀ wct₀ placed₀ tally₀ last₀ at₀ phase failed runs order place taken value seen mark claim standing content wct placed tally last at =
+Inv-loop session nodes sheets owner phase₀ failed₀ runs₀ order₀ place₀ taken₀ gone₀ value₀ seen₀ mark₀ claim₀ standing₀ content₀ wct₀ placed₀ tally₀ last₀ at₀ phase failed runs order place taken gone value seen mark claim standing content wct placed tally last at =
     Looping session (arrays (control nodes sheets placed owner phase failed runs order place taken) value seen mark claim standing content wct) tally (reply-to last) at
+    × Behind order standing taken gone
 
 abbrev μ-loop : tie.MeasureT-loop
-μ-loop session nodes sheets owner phase₀ failed₀ runs₀ order₀ place₀ taken₀ value₀ seen₀ mark₀ claim₀ standing₀ content₀ wct₀ placed₀ tally₀ last₀ at₀ phase failed runs order place taken value seen mark claim standing content wct placed tally last at =
+μ-loop session nodes sheets owner phase₀ failed₀ runs₀ order₀ place₀ taken₀ gone₀ value₀ seen₀ mark₀ claim₀ standing₀ content₀ wct₀ placed₀ tally₀ last₀ at₀ phase failed runs order place taken gone value seen mark claim standing content wct placed tally last at =
     length session - at
 
 new-requires : tie.Need-new-requires Inv-loop μ-loop
@@ -30,7 +32,7 @@ loop-holds : tie.Need-loop-holds Inv-loop μ-loop
 loop-holds c =
     let a = c .before .before .args in
     let t : figures (c .new .result) ≡ no-tally = (λ i. record { accepted = c .new .ensures .0 i; from-first = c .new .ensures .1 i; from-second = c .new .ensures .2 i }) in
-    starts _ _ _ (opening (a .session .now) (a .nodes) (a .sheets) (c .before .before .pre .0)) _ _ (c .before .before .pre .2) t (c .before .before .pre .1)
+    (starts _ _ _ (opening (a .session .now) (a .nodes) (a .sheets) (c .before .before .pre .0)) _ _ (c .before .before .pre .2) t (c .before .before .pre .1), c .before .before .pre .3)
 
 sub-read-next : tie.Need-sub-read-next Inv-loop μ-loop
 sub-read-next c = search needs
@@ -49,23 +51,24 @@ enum-known-next c = search needs
 
 step-requires : tie.Need-step-requires Inv-loop μ-loop
 step-requires c κs =
-    let l = c .before .before .before .before .before .before .before .before .before .before .before .before .before .before .before .before .before .before .before .loop in
-    let s = c .before .before .before .before .before .before .before .before .before .before .before .before .before .before .before .before .before .before .before .before .before .before in
+    let l = c .before .before .before .before .before .before .before .before .before .before .before .before .before .before .before .before .before .before .before .before .loop in
+    let s = c .before .before .before .before .before .before .before .before .before .before .before .before .before .before .before .before .before .before .before .before .before .before .before in
     let o = opening (s .args .session .now) (s .args .nodes) (s .args .sheets) (s .pre .0) .opened-well in
     let x = arrays (control (s .args .nodes) (s .args .sheets) (l .placed) (s .args .owner .now) (l .phase) (l .failed) (l .runs) (l .order) (l .place) (l .taken)) (l .value) (l .seen) (l .mark) (l .claim) (l .standing) (l .content) (l .wct) in
-    ready (s .args .session .now) o x (l .tally) (reply-to (l .last)) (l .at) (l .inv)
+    let r = ready (s .args .session .now) o x (l .tally) (reply-to (l .last)) (l .at) (l .inv .0) in
+    (r .0, r .1, r .2, l .inv .1)
 
 refusal-requires : tie.Need-refusal-requires Inv-loop μ-loop
 refusal-requires c κs = search needs
 
-add-t49 : tie.Need-add-t49 Inv-loop μ-loop
-add-t49 c =
-    let l = c .before .before .before .before .before .before .before .before .before .before .before .before .before .before .before .before .before .before .before .before .before .before .loop in
-    let s = c .before .before .before .before .before .before .before .before .before .before .before .before .before .before .before .before .before .before .before .before .before .before .before .before .before in
+add-t51 : tie.Need-add-t51 Inv-loop μ-loop
+add-t51 c =
+    let l = c .before .before .before .before .before .before .before .before .before .before .before .before .before .before .before .before .before .before .before .before .before .before .before .loop in
+    let s = c .before .before .before .before .before .before .before .before .before .before .before .before .before .before .before .before .before .before .before .before .before .before .before .before .before .before in
     let o = opening (s .args .session .now) (s .args .nodes) (s .args .sheets) (s .pre .0) .opened-well in
     let x = arrays (control (s .args .nodes) (s .args .sheets) (l .placed) (s .args .owner .now) (l .phase) (l .failed) (l .runs) (l .order) (l .place) (l .taken)) (l .value) (l .seen) (l .mark) (l .claim) (l .standing) (l .content) (l .wct) in
-    let n = c .before .before .before .before .before .before .before .before .before .before .before .before .before .before .before .before .before .next .given in
-    let h = fits (s .args .session .now) o x (l .tally) (reply-to (l .last)) (l .at) (l .inv) _ (c .before .before .before .before .before .before .before .before .before .before .before .before .before .before .before .before .before .before .before .read-next .ensures) _ _ (n .1) in
+    let n = c .before .before .before .before .before .before .before .before .before .before .before .before .before .before .before .before .before .before .next .given in
+    let h = fits (s .args .session .now) o x (l .tally) (reply-to (l .last)) (l .at) (l .inv .0) _ (c .before .before .before .before .before .before .before .before .before .before .before .before .before .before .before .before .before .before .before .before .read-next .ensures) _ _ (n .1) in
     omega arith
 
 halted-requires : tie.Need-halted-requires Inv-loop μ-loop
@@ -73,67 +76,67 @@ halted-requires c κs = search needs
 
 returns : tie.Need-returns Inv-loop μ-loop
 returns c =
-    let l = c .before .before .before .before .before .before .before .before .before .before .before .before .before .before .before .before .before .before .before .before .before .before .before .loop in
-    let s = c .before .before .before .before .before .before .before .before .before .before .before .before .before .before .before .before .before .before .before .before .before .before .before .before .before .before in
+    let l = c .before .before .before .before .before .before .before .before .before .before .before .before .before .before .before .before .before .before .before .before .before .before .before .before .loop in
+    let s = c .before .before .before .before .before .before .before .before .before .before .before .before .before .before .before .before .before .before .before .before .before .before .before .before .before .before .before in
     let o = opening (s .args .session .now) (s .args .nodes) (s .args .sheets) (s .pre .0) .opened-well in
     let x = arrays (control (s .args .nodes) (s .args .sheets) (l .placed) (s .args .owner .now) (l .phase) (l .failed) (l .runs) (l .order) (l .place) (l .taken)) (l .value) (l .seen) (l .mark) (l .claim) (l .standing) (l .content) (l .wct) in
-    let n = c .before .before .before .before .before .before .before .before .before .before .before .before .before .before .before .before .before .before .next .given in
-    let h = fits (s .args .session .now) o x (l .tally) (reply-to (l .last)) (l .at) (l .inv) _ (c .before .before .before .before .before .before .before .before .before .before .before .before .before .before .before .before .before .before .before .before .read-next .ensures) _ _ (n .1) in
+    let n = c .before .before .before .before .before .before .before .before .before .before .before .before .before .before .before .before .before .before .before .next .given in
+    let h = fits (s .args .session .now) o x (l .tally) (reply-to (l .last)) (l .at) (l .inv .0) _ (c .before .before .before .before .before .before .before .before .before .before .before .before .before .before .before .before .before .before .before .before .before .read-next .ensures) _ _ (n .1) in
     let t = c .before .before .before .step in
-    let y = arrays (control (s .args .nodes) (s .args .sheets) (t .result .placed) (s .args .owner .now) (t .last .1 .1 .1 .1 .0) (t .last .1 .1 .1 .1 .1 .0) (t .last .1 .1 .1 .1 .1 .1 .0) (t .last .1 .1 .1 .1 .1 .1 .1 .0) (t .last .1 .1 .1 .1 .1 .1 .1 .1 .0) (t .last .1 .1 .1 .1 .1 .1 .1 .1 .1 .0)) (t .last .1 .1 .1 .1 .1 .1 .1 .1 .1 .1 .0) (t .last .1 .1 .1 .1 .1 .1 .1 .1 .1 .1 .1 .0) (t .last .1 .1 .1 .1 .1 .1 .1 .1 .1 .1 .1 .1 .0) (t .last .1 .1 .1 .1 .1 .1 .1 .1 .1 .1 .1 .1 .1 .0) (t .last .1 .1 .1 .1 .1 .1 .1 .1 .1 .1 .1 .1 .1 .1 .0) (t .last .1 .1 .1 .1 .1 .1 .1 .1 .1 .1 .1 .1 .1 .1 .1 .0) (t .last .1 .1 .1 .1 .1 .1 .1 .1 .1 .1 .1 .1 .1 .1 .1 .1 .0) in
+    let y = arrays (control (s .args .nodes) (s .args .sheets) (t .result .placed) (s .args .owner .now) (t .last .1 .1 .1 .1 .0) (t .last .1 .1 .1 .1 .1 .0) (t .last .1 .1 .1 .1 .1 .1 .0) (t .last .1 .1 .1 .1 .1 .1 .1 .0) (t .last .1 .1 .1 .1 .1 .1 .1 .1 .0) (t .last .1 .1 .1 .1 .1 .1 .1 .1 .1 .0)) (t .last .1 .1 .1 .1 .1 .1 .1 .1 .1 .1 .1 .0) (t .last .1 .1 .1 .1 .1 .1 .1 .1 .1 .1 .1 .1 .0) (t .last .1 .1 .1 .1 .1 .1 .1 .1 .1 .1 .1 .1 .1 .0) (t .last .1 .1 .1 .1 .1 .1 .1 .1 .1 .1 .1 .1 .1 .1 .0) (t .last .1 .1 .1 .1 .1 .1 .1 .1 .1 .1 .1 .1 .1 .1 .1 .0) (t .last .1 .1 .1 .1 .1 .1 .1 .1 .1 .1 .1 .1 .1 .1 .1 .1 .0) (t .last .1 .1 .1 .1 .1 .1 .1 .1 .1 .1 .1 .1 .1 .1 .1 .1 .1 .0) in
     let z : Sizes y = record { shaped = t .ensures .1 .1; sized = t .ensures .1 .0 } in
-    rw (c .halted .ensures, c .before .before .refusal .ensures) (stops (s .args .session .now) o x (l .tally) (reply-to (l .last)) (l .at) (l .inv) _ (c .before .before .before .before .before .before .before .before .before .before .before .before .before .before .before .before .before .before .before .before .read-next .ensures) _ _ (n .1) y _ (t .ensures .0) z (λ e. c .before .if1 .taken (c .before .before .refusal .ensures ∙ e)))
+    rw (c .halted .ensures, c .before .before .refusal .ensures) (stops (s .args .session .now) o x (l .tally) (reply-to (l .last)) (l .at) (l .inv .0) _ (c .before .before .before .before .before .before .before .before .before .before .before .before .before .before .before .before .before .before .before .before .before .read-next .ensures) _ _ (n .1) y _ (t .ensures .0) z (λ e. c .before .if1 .taken (c .before .before .refusal .ensures ∙ e)))
 
 advanced-requires : tie.Need-advanced-requires Inv-loop μ-loop
 advanced-requires c κs =
-    let l = c .before .before .before .before .before .before .before .before .before .before .before .before .before .before .before .before .before .before .before .before .before .before .loop in
-    let s = c .before .before .before .before .before .before .before .before .before .before .before .before .before .before .before .before .before .before .before .before .before .before .before .before .before in
-    let o = opening (s .args .session .now) (s .args .nodes) (s .args .sheets) (s .pre .0) .opened-well in
-    let x = arrays (control (s .args .nodes) (s .args .sheets) (l .placed) (s .args .owner .now) (l .phase) (l .failed) (l .runs) (l .order) (l .place) (l .taken)) (l .value) (l .seen) (l .mark) (l .claim) (l .standing) (l .content) (l .wct) in
-    room (s .args .session .now) o x (l .tally) (reply-to (l .last)) (l .at) (l .inv)
-
-add-at-2 : tie.Need-add-at-2 Inv-loop μ-loop
-add-at-2 c =
     let l = c .before .before .before .before .before .before .before .before .before .before .before .before .before .before .before .before .before .before .before .before .before .before .before .loop in
     let s = c .before .before .before .before .before .before .before .before .before .before .before .before .before .before .before .before .before .before .before .before .before .before .before .before .before .before in
     let o = opening (s .args .session .now) (s .args .nodes) (s .args .sheets) (s .pre .0) .opened-well in
     let x = arrays (control (s .args .nodes) (s .args .sheets) (l .placed) (s .args .owner .now) (l .phase) (l .failed) (l .runs) (l .order) (l .place) (l .taken)) (l .value) (l .seen) (l .mark) (l .claim) (l .standing) (l .content) (l .wct) in
-    let n = c .before .before .before .before .before .before .before .before .before .before .before .before .before .before .before .before .before .before .next .given in
-    let h = fits (s .args .session .now) o x (l .tally) (reply-to (l .last)) (l .at) (l .inv) _ (c .before .before .before .before .before .before .before .before .before .before .before .before .before .before .before .before .before .before .before .before .read-next .ensures) _ _ (n .1) in
+    room (s .args .session .now) o x (l .tally) (reply-to (l .last)) (l .at) (l .inv .0)
+
+add-at-2 : tie.Need-add-at-2 Inv-loop μ-loop
+add-at-2 c =
+    let l = c .before .before .before .before .before .before .before .before .before .before .before .before .before .before .before .before .before .before .before .before .before .before .before .before .loop in
+    let s = c .before .before .before .before .before .before .before .before .before .before .before .before .before .before .before .before .before .before .before .before .before .before .before .before .before .before .before in
+    let o = opening (s .args .session .now) (s .args .nodes) (s .args .sheets) (s .pre .0) .opened-well in
+    let x = arrays (control (s .args .nodes) (s .args .sheets) (l .placed) (s .args .owner .now) (l .phase) (l .failed) (l .runs) (l .order) (l .place) (l .taken)) (l .value) (l .seen) (l .mark) (l .claim) (l .standing) (l .content) (l .wct) in
+    let n = c .before .before .before .before .before .before .before .before .before .before .before .before .before .before .before .before .before .before .before .next .given in
+    let h = fits (s .args .session .now) o x (l .tally) (reply-to (l .last)) (l .at) (l .inv .0) _ (c .before .before .before .before .before .before .before .before .before .before .before .before .before .before .before .before .before .before .before .before .before .read-next .ensures) _ _ (n .1) in
     omega arith
 
 add-at-3 : tie.Need-add-at-3 Inv-loop μ-loop
 add-at-3 c =
-    let l = c .before .before .before .before .before .before .before .before .before .before .before .before .before .before .before .before .before .before .before .before .before .before .before .loop in
-    let s = c .before .before .before .before .before .before .before .before .before .before .before .before .before .before .before .before .before .before .before .before .before .before .before .before .before .before in
+    let l = c .before .before .before .before .before .before .before .before .before .before .before .before .before .before .before .before .before .before .before .before .before .before .before .before .loop in
+    let s = c .before .before .before .before .before .before .before .before .before .before .before .before .before .before .before .before .before .before .before .before .before .before .before .before .before .before .before in
     let o = opening (s .args .session .now) (s .args .nodes) (s .args .sheets) (s .pre .0) .opened-well in
     let x = arrays (control (s .args .nodes) (s .args .sheets) (l .placed) (s .args .owner .now) (l .phase) (l .failed) (l .runs) (l .order) (l .place) (l .taken)) (l .value) (l .seen) (l .mark) (l .claim) (l .standing) (l .content) (l .wct) in
-    let n = c .before .before .before .before .before .before .before .before .before .before .before .before .before .before .before .before .before .before .next .given in
-    let h = fits (s .args .session .now) o x (l .tally) (reply-to (l .last)) (l .at) (l .inv) _ (c .before .before .before .before .before .before .before .before .before .before .before .before .before .before .before .before .before .before .before .before .read-next .ensures) _ _ (n .1) in
+    let n = c .before .before .before .before .before .before .before .before .before .before .before .before .before .before .before .before .before .before .before .next .given in
+    let h = fits (s .args .session .now) o x (l .tally) (reply-to (l .last)) (l .at) (l .inv .0) _ (c .before .before .before .before .before .before .before .before .before .before .before .before .before .before .before .before .before .before .before .before .before .read-next .ensures) _ _ (n .1) in
     omega arith
 
 loop-less : tie.Need-loop-less Inv-loop μ-loop
 loop-less c =
-    let l = c .before .before .before .before .before .before .before .before .before .before .before .before .before .before .before .before .before .before .before .before .before .before .before .loop in
-    let s = c .before .before .before .before .before .before .before .before .before .before .before .before .before .before .before .before .before .before .before .before .before .before .before .before .before .before in
+    let l = c .before .before .before .before .before .before .before .before .before .before .before .before .before .before .before .before .before .before .before .before .before .before .before .before .loop in
+    let s = c .before .before .before .before .before .before .before .before .before .before .before .before .before .before .before .before .before .before .before .before .before .before .before .before .before .before .before in
     let o = opening (s .args .session .now) (s .args .nodes) (s .args .sheets) (s .pre .0) .opened-well in
     let x = arrays (control (s .args .nodes) (s .args .sheets) (l .placed) (s .args .owner .now) (l .phase) (l .failed) (l .runs) (l .order) (l .place) (l .taken)) (l .value) (l .seen) (l .mark) (l .claim) (l .standing) (l .content) (l .wct) in
-    let n = c .before .before .before .before .before .before .before .before .before .before .before .before .before .before .before .before .before .before .next .given in
-    let h = fits (s .args .session .now) o x (l .tally) (reply-to (l .last)) (l .at) (l .inv) _ (c .before .before .before .before .before .before .before .before .before .before .before .before .before .before .before .before .before .before .before .before .read-next .ensures) _ _ (n .1) in
+    let n = c .before .before .before .before .before .before .before .before .before .before .before .before .before .before .before .before .before .before .before .next .given in
+    let h = fits (s .args .session .now) o x (l .tally) (reply-to (l .last)) (l .at) (l .inv .0) _ (c .before .before .before .before .before .before .before .before .before .before .before .before .before .before .before .before .before .before .before .before .before .read-next .ensures) _ _ (n .1) in
     omega arith
 
 loop-again : tie.Need-loop-again Inv-loop μ-loop
 loop-again c =
-    let l = c .before .before .before .before .before .before .before .before .before .before .before .before .before .before .before .before .before .before .before .before .before .before .before .loop in
-    let s = c .before .before .before .before .before .before .before .before .before .before .before .before .before .before .before .before .before .before .before .before .before .before .before .before .before .before in
+    let l = c .before .before .before .before .before .before .before .before .before .before .before .before .before .before .before .before .before .before .before .before .before .before .before .before .loop in
+    let s = c .before .before .before .before .before .before .before .before .before .before .before .before .before .before .before .before .before .before .before .before .before .before .before .before .before .before .before in
     let o = opening (s .args .session .now) (s .args .nodes) (s .args .sheets) (s .pre .0) .opened-well in
     let x = arrays (control (s .args .nodes) (s .args .sheets) (l .placed) (s .args .owner .now) (l .phase) (l .failed) (l .runs) (l .order) (l .place) (l .taken)) (l .value) (l .seen) (l .mark) (l .claim) (l .standing) (l .content) (l .wct) in
-    let n = c .before .before .before .before .before .before .before .before .before .before .before .before .before .before .before .before .before .before .next .given in
-    let h = fits (s .args .session .now) o x (l .tally) (reply-to (l .last)) (l .at) (l .inv) _ (c .before .before .before .before .before .before .before .before .before .before .before .before .before .before .before .before .before .before .before .before .read-next .ensures) _ _ (n .1) in
+    let n = c .before .before .before .before .before .before .before .before .before .before .before .before .before .before .before .before .before .before .before .next .given in
+    let h = fits (s .args .session .now) o x (l .tally) (reply-to (l .last)) (l .at) (l .inv .0) _ (c .before .before .before .before .before .before .before .before .before .before .before .before .before .before .before .before .before .before .before .before .before .read-next .ensures) _ _ (n .1) in
     let t = c .before .before .before .step in
-    let y = arrays (control (s .args .nodes) (s .args .sheets) (t .result .placed) (s .args .owner .now) (t .last .1 .1 .1 .1 .0) (t .last .1 .1 .1 .1 .1 .0) (t .last .1 .1 .1 .1 .1 .1 .0) (t .last .1 .1 .1 .1 .1 .1 .1 .0) (t .last .1 .1 .1 .1 .1 .1 .1 .1 .0) (t .last .1 .1 .1 .1 .1 .1 .1 .1 .1 .0)) (t .last .1 .1 .1 .1 .1 .1 .1 .1 .1 .1 .0) (t .last .1 .1 .1 .1 .1 .1 .1 .1 .1 .1 .1 .0) (t .last .1 .1 .1 .1 .1 .1 .1 .1 .1 .1 .1 .1 .0) (t .last .1 .1 .1 .1 .1 .1 .1 .1 .1 .1 .1 .1 .1 .0) (t .last .1 .1 .1 .1 .1 .1 .1 .1 .1 .1 .1 .1 .1 .1 .0) (t .last .1 .1 .1 .1 .1 .1 .1 .1 .1 .1 .1 .1 .1 .1 .1 .0) (t .last .1 .1 .1 .1 .1 .1 .1 .1 .1 .1 .1 .1 .1 .1 .1 .1 .0) in
+    let y = arrays (control (s .args .nodes) (s .args .sheets) (t .result .placed) (s .args .owner .now) (t .last .1 .1 .1 .1 .0) (t .last .1 .1 .1 .1 .1 .0) (t .last .1 .1 .1 .1 .1 .1 .0) (t .last .1 .1 .1 .1 .1 .1 .1 .0) (t .last .1 .1 .1 .1 .1 .1 .1 .1 .0) (t .last .1 .1 .1 .1 .1 .1 .1 .1 .1 .0)) (t .last .1 .1 .1 .1 .1 .1 .1 .1 .1 .1 .1 .0) (t .last .1 .1 .1 .1 .1 .1 .1 .1 .1 .1 .1 .1 .0) (t .last .1 .1 .1 .1 .1 .1 .1 .1 .1 .1 .1 .1 .1 .0) (t .last .1 .1 .1 .1 .1 .1 .1 .1 .1 .1 .1 .1 .1 .1 .0) (t .last .1 .1 .1 .1 .1 .1 .1 .1 .1 .1 .1 .1 .1 .1 .1 .0) (t .last .1 .1 .1 .1 .1 .1 .1 .1 .1 .1 .1 .1 .1 .1 .1 .1 .0) (t .last .1 .1 .1 .1 .1 .1 .1 .1 .1 .1 .1 .1 .1 .1 .1 .1 .1 .0) in
     let z : Sizes y = record { shaped = t .ensures .1 .1; sized = t .ensures .1 .0 } in
-    (goes-on (s .args .session .now) o x (l .tally) (reply-to (l .last)) (l .at) (l .inv) _ (c .before .before .before .before .before .before .before .before .before .before .before .before .before .before .before .before .before .before .before .before .read-next .ensures) _ _ (n .1) y _ (t .ensures .0) z (sym (c .before .before .refusal .ensures) ∙ c .before .if1 .left) _ (c .advanced .ensures))
+    (goes-on (s .args .session .now) o x (l .tally) (reply-to (l .last)) (l .at) (l .inv .0) _ (c .before .before .before .before .before .before .before .before .before .before .before .before .before .before .before .before .before .before .before .before .before .read-next .ensures) _ _ (n .1) y _ (t .ensures .0) z (sym (c .before .before .refusal .ensures) ∙ c .before .if1 .left) _ (c .advanced .ensures), t .ensures .1 .2)
 
 enum-told : tie.Need-enum-told Inv-loop μ-loop
 enum-told c = search needs
@@ -147,13 +150,13 @@ returns-2 c =
     let s = c .before .before .before .before .before .before .before .before .before in
     let o = opening (s .args .session .now) (s .args .nodes) (s .args .sheets) (s .pre .0) .opened-well in
     let x = arrays (control (s .args .nodes) (s .args .sheets) (l .placed) (s .args .owner .now) (l .phase) (l .failed) (l .runs) (l .order) (l .place) (l .taken)) (l .value) (l .seen) (l .mark) (l .claim) (l .standing) (l .content) (l .wct) in
-    rw (c .halted2 .ensures) (at-unknown (s .args .session .now) o x (l .tally) (reply-to (l .last)) (l .at) (l .inv) _ (c .before .before .before .read-next .ensures) (c .before .enum-told .given .1) (c .before .before .before .before .before .loop-test .taken))
+    rw (c .halted2 .ensures) (at-unknown (s .args .session .now) o x (l .tally) (reply-to (l .last)) (l .at) (l .inv .0) _ (c .before .before .before .read-next .ensures) (c .before .enum-told .given .1) (c .before .before .before .before .before .loop-test .taken))
 
 enum-told-2 : tie.Need-enum-told-2 Inv-loop μ-loop
 enum-told-2 c = search needs
 
-sub-t54 : tie.Need-sub-t54 Inv-loop μ-loop
-sub-t54 c = search needs
+sub-t56 : tie.Need-sub-t56 Inv-loop μ-loop
+sub-t56 c = search needs
 
 halted-requires-3 : tie.Need-halted-requires-3 Inv-loop μ-loop
 halted-requires-3 c κs = search needs
@@ -164,7 +167,7 @@ returns-3 c =
     let s = c .before .before .before .before .before .before .before .before .before in
     let o = opening (s .args .session .now) (s .args .nodes) (s .args .sheets) (s .pre .0) .opened-well in
     let x = arrays (control (s .args .nodes) (s .args .sheets) (l .placed) (s .args .owner .now) (l .phase) (l .failed) (l .runs) (l .order) (l .place) (l .taken)) (l .value) (l .seen) (l .mark) (l .claim) (l .standing) (l .content) (l .wct) in
-    rw (c .halted3 .ensures) (at-cut (s .args .session .now) o x (l .tally) (reply-to (l .last)) (l .at) (l .inv) _ (c .before .before .before .read-next .ensures) (c .before .enum-told2 .given .1))
+    rw (c .halted3 .ensures) (at-cut (s .args .session .now) o x (l .tally) (reply-to (l .last)) (l .at) (l .inv .0) _ (c .before .before .before .read-next .ensures) (c .before .enum-told2 .given .1))
 
 enum-told-3 : tie.Need-enum-told-3 Inv-loop μ-loop
 enum-told-3 c = search needs
@@ -178,7 +181,7 @@ returns-4 c =
     let s = c .before .before .before .before .before .before .before .before .before in
     let o = opening (s .args .session .now) (s .args .nodes) (s .args .sheets) (s .pre .0) .opened-well in
     let x = arrays (control (s .args .nodes) (s .args .sheets) (l .placed) (s .args .owner .now) (l .phase) (l .failed) (l .runs) (l .order) (l .place) (l .taken)) (l .value) (l .seen) (l .mark) (l .claim) (l .standing) (l .content) (l .wct) in
-    rw (c .halted4 .ensures) (at-end (s .args .session .now) o x (l .tally) (reply-to (l .last)) (l .at) (l .inv) _ (c .before .before .before .read-next .ensures) (c .before .enum-told3 .given .1))
+    rw (c .halted4 .ensures) (at-end (s .args .session .now) o x (l .tally) (reply-to (l .last)) (l .at) (l .inv .0) _ (c .before .before .before .read-next .ensures) (c .before .enum-told3 .given .1))
 
 halted-requires-5 : tie.Need-halted-requires-5 Inv-loop μ-loop
 halted-requires-5 c κs = search needs
@@ -189,7 +192,7 @@ returns-5 c =
     let s = c .before .before .before .before .before in
     let o = opening (s .args .session .now) (s .args .nodes) (s .args .sheets) (s .pre .0) .opened-well in
     let x = arrays (control (s .args .nodes) (s .args .sheets) (l .placed) (s .args .owner .now) (l .phase) (l .failed) (l .runs) (l .order) (l .place) (l .taken)) (l .value) (l .seen) (l .mark) (l .claim) (l .standing) (l .content) (l .wct) in
-    rw (c .halted5 .ensures) (done (s .args .session .now) o x (l .tally) (reply-to (l .last)) (l .at) (l .inv) (c .before .loop-test .left))
+    rw (c .halted5 .ensures) (done (s .args .session .now) o x (l .tally) (reply-to (l .last)) (l .at) (l .inv .0) (c .before .loop-test .left))
 
 pub walk-spec : {M : Type 1} → statement M
 walk-spec =
@@ -207,7 +210,7 @@ walk-spec =
     enum-known-next
     step-requires
     refusal-requires
-    add-t49
+    add-t51
     halted-requires
     returns
     advanced-requires
@@ -219,7 +222,7 @@ walk-spec =
     halted-requires-2
     returns-2
     enum-told-2
-    sub-t54
+    sub-t56
     halted-requires-3
     returns-3
     enum-told-3

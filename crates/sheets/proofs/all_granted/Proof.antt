@@ -19,11 +19,11 @@ abbrev test : (owner order place taken claim standing : List ℕ) → (t k : ℕ
 test owner order place taken claim standing t k = granted (view (control 0 0 0 owner [] [] [] order place taken) [] [] [] claim standing [] [] no-tally) t k
 
 abbrev Inv-loop : tie.InvT-loop
-Inv-loop sheets owner order taken claim standing t k₀ k =
+Inv-loop sheets owner order taken gone claim standing t k₀ k =
     (k ≤ 64) × ((place : List ℕ) → Onces order place taken → all sheets (test owner order place taken claim standing t) ≡ all k (test owner order place taken claim standing t))
 
 abbrev μ-loop : tie.MeasureT-loop
-μ-loop sheets owner order taken claim standing t k₀ k = k
+μ-loop sheets owner order taken gone claim standing t k₀ k = k
 
 loop-holds : tie.Need-loop-holds Inv-loop μ-loop
 loop-holds c = (c .pre .0 .sheets64, λ place once. refl)
@@ -37,36 +37,43 @@ element-copy-out-n c = search needs
 cast-n : tie.Need-cast-n Inv-loop μ-loop
 cast-n c = omega (arith, c .before .before .before .pre .0 .owners (c .before .before .loop .k - 1))
 
+element-copy-out-from : tie.Need-element-copy-out-from Inv-loop μ-loop
+element-copy-out-from c = omega (arith, c .before .before .before .pre .0 .owners (c .before .before .loop .k - 1))
+
+cast-from : tie.Need-cast-from Inv-loop μ-loop
+cast-from c = let m = getD (c .before .before .before .before .args .owner .now) (c .before .before .before .loop .k - 1) 0 in omega (arith, c .before .before .before .before .pre .0 .takens m, c .before .before .before .before .pre .2 .within m)
+
 element-copy-out-upto : tie.Need-element-copy-out-upto Inv-loop μ-loop
-element-copy-out-upto c = omega (arith, c .before .before .before .pre .0 .owners (c .before .before .loop .k - 1))
+element-copy-out-upto c = omega (arith, c .before .before .before .before .pre .0 .owners (c .before .before .before .loop .k - 1))
 
 cast-upto : tie.Need-cast-upto Inv-loop μ-loop
-cast-upto c = omega (arith, c .before .before .before .before .pre .0 .takens (getD (c .before .before .before .before .args .owner .now) (c .before .before .before .loop .k - 1) 0))
+cast-upto c = omega (arith, c .before .before .before .before .before .pre .0 .takens (getD (c .before .before .before .before .before .args .owner .now) (c .before .before .before .before .loop .k - 1) 0))
 
 granted-at-requires : tie.Need-granted-at-requires Inv-loop μ-loop
 granted-at-requires c κs =
-    let k = c .before .before .before .loop .k - 1 in
-    (walk-taken (c .before .before .before .before .pre .0) (getD (c .before .before .before .before .args .owner .now) k 0) k (c .before .before .before .before .pre .0 .owners k) (omega arith), c .before .before .before .before .pre .1)
+    let k = c .before .before .before .before .loop .k - 1 in
+    let m = getD (c .before .before .before .before .before .args .owner .now) k 0 in
+    (walk-taken (c .before .before .before .before .before .pre .0) m k (c .before .before .before .before .before .pre .0 .owners k) (omega arith), c .before .before .before .before .before .pre .2 .within m, c .before .before .before .before .before .pre .2 .none m, c .before .before .before .before .before .pre .1)
 
 loop-less : tie.Need-loop-less Inv-loop μ-loop
 loop-less c = search needs
 
 loop-again : tie.Need-loop-again Inv-loop μ-loop
 loop-again c =
-    let l = c .before .before .before .before .before .loop in
-    let a = c .before .before .before .before .before .before .args in (
+    let l = c .before .before .before .before .before .before .loop in
+    let a = c .before .before .before .before .before .before .before .args in (
       omega arith,
       λ place once.
-          l .inv .1 place once ∙ all-down (l .k) (test (a .owner .now) (a .order .now) place (a .taken .now) (a .claim .now) (a .standing .now) (a .t)) (c .before .before .before .before .loop-test .taken)
+          l .inv .1 place once ∙ all-down (l .k) (test (a .owner .now) (a .order .now) place (a .taken .now) (a .claim .now) (a .standing .now) (a .t)) (c .before .before .before .before .before .loop-test .taken)
           (sym (c .before .granted-at .ensures (λ u. getD place u 0) (once (getD (a .owner .now) (l .k - 1) 0))) ∙ c .if1 .taken),
     )
 
 returns : tie.Need-returns Inv-loop μ-loop
 returns c =
-    let l = c .before .before .before .before .before .loop in
-    let a = c .before .before .before .before .before .before .args in
+    let l = c .before .before .before .before .before .before .loop in
+    let a = c .before .before .before .before .before .before .before .args in
     λ place once.
-    sym (l .inv .1 place once ∙ all-here (l .k) (test (a .owner .now) (a .order .now) place (a .taken .now) (a .claim .now) (a .standing .now) (a .t)) (c .before .before .before .before .loop-test .taken)
+    sym (l .inv .1 place once ∙ all-here (l .k) (test (a .owner .now) (a .order .now) place (a .taken .now) (a .claim .now) (a .standing .now) (a .t)) (c .before .before .before .before .before .loop-test .taken)
     (sym (c .before .granted-at .ensures (λ u. getD place u 0) (once (getD (a .owner .now) (l .k - 1) 0))) ∙ c .if1 .left))
 
 returns-2 : tie.Need-returns-2 Inv-loop μ-loop
@@ -85,6 +92,8 @@ all-granted-spec =
     sub-k
     element-copy-out-n
     cast-n
+    element-copy-out-from
+    cast-from
     element-copy-out-upto
     cast-upto
     granted-at-requires

@@ -28,20 +28,26 @@ test-is : (owner order place taken seen claim standing wct : List ℕ) (n t k : 
 test-is owner order place taken seen claim standing wct n t k = sym (at-owner (getD owner k 0) n (fails order place taken seen claim standing wct t k))
 
 abbrev Inv-loop : tie.InvT-loop
-Inv-loop sheets owner order taken seen claim standing wct n t ni upto k₀ k =
+Inv-loop sheets owner order taken gone seen claim standing wct n t ni from upto k₀ k =
     (k ≤ 64) × ((place : List ℕ) → Onces order place taken → any sheets (test owner order place taken seen claim standing wct n t) ≡ any k (test owner order place taken seen claim standing wct n t))
 
 abbrev μ-loop : tie.MeasureT-loop
-μ-loop sheets owner order taken seen claim standing wct n t ni upto k₀ k = k
+μ-loop sheets owner order taken gone seen claim standing wct n t ni from upto k₀ k = k
+
+element-copy-out-from : tie.Need-element-copy-out-from Inv-loop μ-loop
+element-copy-out-from c = search needs
+
+cast-from : tie.Need-cast-from Inv-loop μ-loop
+cast-from c = omega (arith, c .before .pre .0 .takens (c .before .args .n), c .before .pre .3 .within (c .before .args .n))
 
 element-copy-out-upto : tie.Need-element-copy-out-upto Inv-loop μ-loop
 element-copy-out-upto c = search needs
 
 cast-upto : tie.Need-cast-upto Inv-loop μ-loop
-cast-upto c = omega (arith, c .before .pre .0 .takens (c .before .args .n))
+cast-upto c = omega (arith, c .before .before .pre .0 .takens (c .before .before .args .n))
 
 loop-holds : tie.Need-loop-holds Inv-loop μ-loop
-loop-holds c = (c .before .pre .0 .sheets64, λ place once. refl)
+loop-holds c = (c .before .before .pre .0 .sheets64, λ place once. refl)
 
 sub-k : tie.Need-sub-k Inv-loop μ-loop
 sub-k c = search needs
@@ -50,12 +56,12 @@ element-copy-out-o : tie.Need-element-copy-out-o Inv-loop μ-loop
 element-copy-out-o c = search needs
 
 fails-at-requires : tie.Need-fails-at-requires Inv-loop μ-loop
-fails-at-requires c κs = (walk-taken (c .before .before .before .before .pre .0) (c .before .before .before .before .args .n) (c .before .before .loop .k - 1) (c .before .before .before .before .pre .1) (omega arith), c .before .before .before .before .pre .2)
+fails-at-requires c κs = (walk-taken (c .before .before .before .before .before .pre .0) (c .before .before .before .before .before .args .n) (c .before .before .loop .k - 1) (c .before .before .before .before .before .pre .1) (omega arith), c .before .before .before .before .before .pre .3 .within (c .before .before .before .before .before .args .n), c .before .before .before .before .before .pre .3 .none (c .before .before .before .before .before .args .n), c .before .before .before .before .before .pre .2)
 
 returns : tie.Need-returns Inv-loop μ-loop
 returns c =
     let l = c .before .before .before .before .loop in
-    let a = c .before .before .before .before .before .before .args in
+    let a = c .before .before .before .before .before .before .before .args in
     λ place once.
     sym (l .inv .1 place once
     ∙ any-here (l .k) (test (a .owner .now) (a .order .now) place (a .taken .now) (a .seen .now) (a .claim .now) (a .standing .now) (a .wct .now) (a .n) (a .t)) (c .before .before .before .loop-test .taken)
@@ -68,7 +74,7 @@ loop-less c = search needs
 loop-again : tie.Need-loop-again Inv-loop μ-loop
 loop-again c =
     let l = c .before .before .before .before .loop in
-    let a = c .before .before .before .before .before .before .args in (
+    let a = c .before .before .before .before .before .before .before .args in (
       omega arith,
       λ place once.
           l .inv .1 place once
@@ -80,7 +86,7 @@ loop-again c =
 returns-2 : tie.Need-returns-2 Inv-loop μ-loop
 returns-2 c =
     let l = c .before .loop in
-    let a = c .before .before .before .args in
+    let a = c .before .before .before .before .args in
     λ place once.
     sym (l .inv .1 place once
     ∙ any-end (l .k) (test (a .owner .now) (a .order .now) place (a .taken .now) (a .seen .now) (a .claim .now) (a .standing .now) (a .wct .now) (a .n) (a .t)) (omega arith))
@@ -91,6 +97,8 @@ finds-invalid-spec =
     (tie.spec
     Inv-loop
     μ-loop
+    element-copy-out-from
+    cast-from
     element-copy-out-upto
     cast-upto
     loop-holds
