@@ -6,3 +6,4 @@ pub mod Steps
 pub mod Ready
 pub mod Fresh
 pub mod Behind
+pub mod Listed

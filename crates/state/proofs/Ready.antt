@@ -1,5 +1,5 @@
 -- What is known of the rules' state holds of the arrays that show it.
-use Prim.Native.Nat.{ℕ, zero, suc, _≤_, _<_}
+use Prim.Native.Nat.{ℕ, zero, suc, _+_, _*_, _≤_, _<_}
 use mathlib.Core.Path.{_≡_, refl, sym, _∙_}
 use mathlib.Core.Bool.{true, false, true≢false}
 use mathlib.Core.List.{List, [], _∷_}
@@ -7,13 +7,15 @@ use native.Mathlib.Omega.{arith}
 use lib.ListN.{length, getD, take}
 use lib.Seq.{getD-take}
 use lib.Dec.{ltb}
-use borrow.Author.Tests.{ltb-true, ltb-false}
+use borrow.Author.Tests.{ltb-true, ltb-false, ne-eqb}
 use Rattle.rules.specs.State.{Tally, is-first}
 use Rattle.state.specs.declared.Control.{Control}
 use Rattle.state.specs.Places.{at}
 use Rattle.state.specs.View.{as-phase, view}
-use Rattle.state.specs.Ready.{Shaped, Known, Queued, Onces, Ready, Rising}
+use Rattle.state.specs.Ready.{Shaped, Known, Queued, Onces, Ready, Rising, Claimed}
 use Rattle.state.proofs.Tables.{bool}
+use Rattle.state.proofs.Codes.{claims-code}
+use Rattle.state.proofs.Stores.{flat-in}
 use Rattle.state.proofs.Places.{order-length}
 
 -- past its end an array reads 0
@@ -73,10 +75,14 @@ module _ (d : Control) (value seen mark claim standing content wct : List ℕ) (
     room = known .room;
     runs = known .runs;
     rises = known .rises;
+    claimed = known .claimed;
   }
 
   pub rising : length wct ≡ 64 → Rising wct
   rising e k = let z = everywhere wct 64 4294967294 e (λ i l. let y = known .rises i l in omega arith) k in omega arith
+
+  pub only-claimed : Claimed (d .sheets) claim
+  only-claimed t k t32 k64 n = known .claimed t k t32 k64 (rw (flat-in claim t k k64, claims-code (getD claim (t * 64 + k) 0), ne-eqb (getD claim (t * 64 + k) 0) 0 n))
 
 -- what the walks ask
 module _ (d : Control) (r : Ready d) where

@@ -2,3 +2,4 @@ pub mod Places
 pub mod View
 pub mod Ready
 pub mod Fill
+pub mod Listed

@@ -5,7 +5,7 @@ use mathlib.Core.Bool.{true, false}
 use mathlib.Core.Logic.{_≢_}
 use mathlib.Core.List.{List}
 use lib.ListN.{length, getD}
-use Rattle.rules.specs.State.{State, is-first}
+use Rattle.rules.specs.State.{State, is-first, claims}
 use Rattle.state.specs.declared.Control.{Control}
 use Rattle.state.specs.Places.{at}
 
@@ -43,6 +43,7 @@ pub record Known (s : State) : Type 0 where
   pub room : (t : ℕ) → t < 32 → is-first (s .phase t) ≡ true → length (s .order) < 32  -- a save in its first run finds a place
   pub runs : (t : ℕ) → t < 32 → s .runs t < 255  -- one more fits
   pub rises : (k : ℕ) → k < 64 → s .sheet k .wct < 4294967295  -- one more fits
+  pub claimed : (t k : ℕ) → t < 32 → k < 64 → claims (s .claim t k) ≡ true → k < s .header .sheets  -- only the header's sheets are claimed
 
 -- ---- The same of the arrays
 
@@ -92,6 +93,10 @@ pub record Ready (d : Control) : Type 0 where
 -- a write counter can rise
 abbrev pub Rising : List ℕ → Type 0
 Rising wct = (k : ℕ) → getD wct k 0 < 4294967295
+
+-- only the header's sheets are claimed
+abbrev pub Claimed : ℕ → List ℕ → Type 0
+Claimed sheets claim = (t k : ℕ) → t < 32 → k < 64 → getD claim (t * 64 + k) 0 ≢ 0 → k < sheets
 
 -- ---- Where a walk may start
 
