@@ -1,5 +1,5 @@
-// The tests that commands make at every sheet: what TAKE finds, what DECIDE asks, where APPLY finds an entry.
-// A contract names the rules' test at the view; what a test does not read is [] or 0 there.
+// The tests that commands make at the sheets that a save claims: what TAKE finds, what DECIDE asks, where APPLY finds an entry.
+// Each goes by the list of these sheets. A contract names the rules' test at the view; what a test does not read is [] or 0 there.
 ghost use Prim.Native.Nat.{ℕ, _+_, _*_, _<_, _≤_};
 ghost use mathlib.Core.Path.{_≡_};
 ghost use mathlib.Core.Bool.{_&&_, _||_, not};
@@ -12,6 +12,7 @@ ghost use Rattle.rules.specs.Steps.{granted, has-taken, finds-invalid, has-entr
 ghost use Rattle.state.specs.Places.{at};
 ghost use Rattle.state.specs.View.{set?, claim-in, control, view, no-tally};
 ghost use Rattle.state.specs.Ready.{Once, Onces, Owners, Queued, Gone, Behind};
+ghost use Rattle.state.specs.Listed.{Rows, Listed};
 ghost use Rattle.queues.specs.Walk.{Walk};
 ghost use Rattle.sheets.specs.Fails.{fails-in};
 use state::Session;
@@ -51,27 +52,30 @@ fn fails_at(
 
 // TAKE: node n finds save t invalid at one of its sheets.
 pub fn finds_invalid(
-    sheets: u8,
     owner: &[u8; Session::SHEETS],
     order: &[u8; Session::SAVES],
     taken: &[u8; Session::NODES],
     gone: &[u8; Session::NODES],
     seen: &[u32; Session::COPIES],
     claim: &[u8; Session::COPIES],
+    listed: &[u8; Session::COPIES],
+    many: &[u8; Session::SAVES],
     standing: &[u8; Session::STANDING],
     wct: &[u32; Session::SHEETS],
     n: u8,
     t: u8,
 ) -> bool
-    requires { ⌜ Queued sheets (now owner) (now order) (now taken) × (n < 8) × (t < 32) × Behind (now order) (now standing) (now taken) (now gone) ⌝ }
-    ensures { λ r. ⌜ ((place : List ℕ) → Onces (now (order .entry)) place (now (taken .entry)) → r ≡ finds-invalid (view (control 0 sheets 0 (now (owner .entry)) [] [] [] (now (order .entry)) place (now (taken .entry))) [] (now (seen .entry)) [] (now (claim .entry)) (now (standing .entry)) [] (now (wct .entry)) no-tally) n t) ⌝ }
+    requires { ⌜ Queued 64 (now owner) (now order) (now taken) × (n < 8) × (t < 32) × Behind (now order) (now standing) (now taken) (now gone) × Rows (now listed) (now many) ⌝ }
+    ensures { λ r. ⌜ ((sheets : ℕ) (place : List ℕ) → Listed sheets (now (claim .entry)) (now (listed .entry)) (now (many .entry)) → Onces (now (order .entry)) place (now (taken .entry)) → r ≡ finds-invalid (view (control 0 sheets 0 (now (owner .entry)) [] [] [] (now (order .entry)) place (now (taken .entry))) [] (now (seen .entry)) [] (now (claim .entry)) (now (standing .entry)) [] (now (wct .entry)) no-tally) n t) ⌝ }
 {
     let ni = n as usize;
+    let ti = t as usize;
     let from = gone[ni] as usize;
     let upto = taken[ni] as usize;
-    let mut k = sheets as usize;
-    while 0 < k {
-        k -= 1;
+    let mut i = many[ti] as usize;
+    while 0 < i {
+        i -= 1;
+        let k = listed[ti * Session::SHEETS + i] as usize;
         let o = owner[k];
         let b = fails_at(order, seen, claim, standing, wct, o, n, from, upto, t, k);
         if b {
@@ -93,21 +97,23 @@ fn taken_at(c: u8, p: u8, m: u8) -> bool
 
 // DECIDE: save t was taken by every node that owns a claimed sheet.
 pub fn all_taken(
-    sheets: u8,
     owner: &[u8; Session::SHEETS],
     place: &[u8; Session::SAVES],
     taken: &[u8; Session::NODES],
     claim: &[u8; Session::COPIES],
+    listed: &[u8; Session::COPIES],
+    many: &[u8; Session::SAVES],
     t: u8,
 ) -> bool
-    requires { ⌜ (sheets ≤ 64) × Owners (now owner) × (t < 32) ⌝ }
-    ensures { λ r. ⌜ r ≡ all sheets (λ k. not (claims (claim-in (now (claim .entry)) t k)) || has-taken (view (control 0 sheets 0 (now (owner .entry)) [] [] [] [] (now (place .entry)) (now (taken .entry))) [] [] [] (now (claim .entry)) [] [] [] no-tally) (getD (now (owner .entry)) k 0) t) ⌝ }
+    requires { ⌜ Owners (now owner) × (t < 32) × Rows (now listed) (now many) ⌝ }
+    ensures { λ r. ⌜ ((sheets : ℕ) → Listed sheets (now (claim .entry)) (now (listed .entry)) (now (many .entry)) → r ≡ all sheets (λ k. not (claims (claim-in (now (claim .entry)) t k)) || has-taken (view (control 0 sheets 0 (now (owner .entry)) [] [] [] [] (now (place .entry)) (now (taken .entry))) [] [] [] (now (claim .entry)) [] [] [] no-tally) (getD (now (owner .entry)) k 0) t)) ⌝ }
 {
     let ti = t as usize;
     let p = place[ti];
-    let mut k = sheets as usize;
-    while 0 < k {
-        k -= 1;
+    let mut i = many[ti] as usize;
+    while 0 < i {
+        i -= 1;
+        let k = listed[ti * Session::SHEETS + i] as usize;
         let o = owner[k] as usize;
         let m = taken[o];
         let c = claim[ti * Session::SHEETS + k];
@@ -121,21 +127,24 @@ pub fn all_taken(
 
 // DECIDE: save t's entries are granted.
 pub fn all_granted(
-    sheets: u8,
     owner: &[u8; Session::SHEETS],
     order: &[u8; Session::SAVES],
     taken: &[u8; Session::NODES],
     gone: &[u8; Session::NODES],
     claim: &[u8; Session::COPIES],
+    listed: &[u8; Session::COPIES],
+    many: &[u8; Session::SAVES],
     standing: &[u8; Session::STANDING],
     t: u8,
 ) -> bool
-    requires { ⌜ Queued sheets (now owner) (now order) (now taken) × (t < 32) × Behind (now order) (now standing) (now taken) (now gone) ⌝ }
-    ensures { λ r. ⌜ ((place : List ℕ) → Onces (now (order .entry)) place (now (taken .entry)) → r ≡ all sheets (λ k. granted (view (control 0 sheets 0 (now (owner .entry)) [] [] [] (now (order .entry)) place (now (taken .entry))) [] [] [] (now (claim .entry)) (now (standing .entry)) [] [] no-tally) t k)) ⌝ }
+    requires { ⌜ Queued 64 (now owner) (now order) (now taken) × (t < 32) × Behind (now order) (now standing) (now taken) (now gone) × Rows (now listed) (now many) ⌝ }
+    ensures { λ r. ⌜ ((sheets : ℕ) (place : List ℕ) → Listed sheets (now (claim .entry)) (now (listed .entry)) (now (many .entry)) → Onces (now (order .entry)) place (now (taken .entry)) → r ≡ all sheets (λ k. granted (view (control 0 sheets 0 (now (owner .entry)) [] [] [] (now (order .entry)) place (now (taken .entry))) [] [] [] (now (claim .entry)) (now (standing .entry)) [] [] no-tally) t k)) ⌝ }
 {
-    let mut k = sheets as usize;
-    while 0 < k {
-        k -= 1;
+    let ti = t as usize;
+    let mut i = many[ti] as usize;
+    while 0 < i {
+        i -= 1;
+        let k = listed[ti * Session::SHEETS + i] as usize;
         let n = owner[k] as usize;
         let from = gone[n] as usize;
         let upto = taken[n] as usize;
@@ -182,20 +191,22 @@ fn claimed_here(o: u8, n: u8, c: u8) -> bool
 }
 
 // Save t claims a sheet of node n.
-fn claims_here(
-    sheets: u8,
+pub fn claims_here(
     owner: &[u8; Session::SHEETS],
     claim: &[u8; Session::COPIES],
+    listed: &[u8; Session::COPIES],
+    many: &[u8; Session::SAVES],
     n: u8,
     t: u8,
 ) -> bool
-    requires { ⌜ (sheets ≤ 64) × (t < 32) ⌝ }
-    ensures { λ r. ⌜ r ≡ any sheets (λ k. eqb (getD (now (owner .entry)) k 0) n && claims (claim-in (now (claim .entry)) t k)) ⌝ }
+    requires { ⌜ (t < 32) × Rows (now listed) (now many) ⌝ }
+    ensures { λ r. ⌜ ((sheets : ℕ) → Listed sheets (now (claim .entry)) (now (listed .entry)) (now (many .entry)) → r ≡ any sheets (λ k. eqb (getD (now (owner .entry)) k 0) n && claims (claim-in (now (claim .entry)) t k))) ⌝ }
 {
     let ti = t as usize;
-    let mut k = sheets as usize;
-    while 0 < k {
-        k -= 1;
+    let mut i = many[ti] as usize;
+    while 0 < i {
+        i -= 1;
+        let k = listed[ti * Session::SHEETS + i] as usize;
         let o = owner[k];
         let c = claim[ti * Session::SHEETS + k];
         let h = claimed_here(o, n, c);
@@ -208,18 +219,19 @@ fn claims_here(
 
 // APPLY: save t has an entry at node n.
 pub fn has_entry(
-    sheets: u8,
     owner: &[u8; Session::SHEETS],
     order: &[u8; Session::SAVES],
     place: &[u8; Session::SAVES],
     taken: &[u8; Session::NODES],
     claim: &[u8; Session::COPIES],
+    listed: &[u8; Session::COPIES],
+    many: &[u8; Session::SAVES],
     standing: &[u8; Session::STANDING],
     n: u8,
     t: u8,
 ) -> bool
-    requires { ⌜ Queued sheets (now owner) (now order) (now taken) × Onces (now order) (now place) (now taken) × (n < 8) × (t < 32) ⌝ }
-    ensures { λ r. ⌜ r ≡ has-entry (view (control 0 sheets 0 (now (owner .entry)) [] [] [] (now (order .entry)) (now (place .entry)) (now (taken .entry))) [] [] [] (now (claim .entry)) (now (standing .entry)) [] [] no-tally) n t ⌝ }
+    requires { ⌜ Queued 64 (now owner) (now order) (now taken) × Onces (now order) (now place) (now taken) × (n < 8) × (t < 32) × Rows (now listed) (now many) ⌝ }
+    ensures { λ r. ⌜ ((sheets : ℕ) → Listed sheets (now (claim .entry)) (now (listed .entry)) (now (many .entry)) → r ≡ has-entry (view (control 0 sheets 0 (now (owner .entry)) [] [] [] (now (order .entry)) (now (place .entry)) (now (taken .entry))) [] [] [] (now (claim .entry)) (now (standing .entry)) [] [] no-tally) n t) ⌝ }
 {
     let ni = n as usize;
     let ti = t as usize;
@@ -227,7 +239,7 @@ pub fn has_entry(
     let q = place[ti];
     let s = stands(order, standing, ni, upto, t, q);
     if s {
-        return claims_here(sheets, owner, claim, n, t);
+        return claims_here(owner, claim, listed, many, n, t);
     }
     false
 }

@@ -12,13 +12,15 @@ use lib.Seq.{getD-set-same, getD-set-other}
 use lib.Dec.{eqb}
 use borrow.Author.Tests.{eqb-true, eqb-false}
 use Rattle.rules.specs.Table.{all, any}
-use Rattle.rules.proofs.Table.{any-at, any-intro, all-at, all-intro, clash}
+use Rattle.rules.specs.State.{claims, unclaimed as no-claim}
+use Rattle.rules.proofs.Table.{below?, any-at, any-intro, all-at, all-intro, clash}
+use Rattle.state.specs.View.{claim-in}
 use Rattle.state.specs.Ready.{Queued}
 use Rattle.state.specs.Fill.{fill}
 use Rattle.state.specs.Listed.{Rows, Lists, Listed}
 use Rattle.state.proofs.Tables.{bool, same?}
 use Rattle.state.proofs.Fresh.{zeros}
-use Rattle.state.proofs.Stores.{fill-in, fill-out}
+use Rattle.state.proofs.Stores.{flat-in, flat-past, fill-in, fill-out}
 
 -- ---- Tests
 
@@ -47,6 +49,12 @@ module _ {bound n : ℕ} {place listed : ℕ → ℕ} (l : Lists bound place lis
       (λ e. all-intro bound f (λ k h. same? (place k) 0
       (none k h)
       (λ z. let w = l .whole k h z in rw (w .2) at (all-at n (λ i. f (listed i)) e (w .0) (w .1)))))
+
+pub not-claimed : (claim : List ℕ) (t k : ℕ) → getD claim (t * 64 + k) 0 ≡ 0 → claim-in claim t k ≡ no-claim
+not-claimed claim t k e = below? k 64 (λ h. rw (flat-in claim t k h, e)) (λ h. rw (flat-past claim t k h))
+
+pub unclaimed : (claim : List ℕ) (t k : ℕ) → getD claim (t * 64 + k) 0 ≡ 0 → claims (claim-in claim t k) ≡ false
+unclaimed claim t k e = rw (not-claimed claim t k e)
 
 -- ---- Lists
 

@@ -19,20 +19,22 @@ stands-requires : tie.Need-stands-requires
 stands-requires c κs = (c .before .before .pre .2, c .before .before .pre .3, c .before .before .pre .0 .takens (c .before .before .args .n))
 
 claims-here-requires : tie.Need-claims-here-requires
-claims-here-requires c κs = (c .before .before .before .before .pre .0 .sheets64, c .before .before .before .before .pre .3)
+claims-here-requires c κs = (c .before .before .before .before .pre .3, c .before .before .before .before .pre .4)
 
 returns : tie.Need-returns
 returns c =
     let s = c .before .before .before .before .before in
     let a = s .args in
-    c .claims-here .ensures
-    ∙ sym (entry-some (a .sheets) (a .owner .now) (a .order .now) (a .place .now) (a .taken .now) (a .claim .now) (a .standing .now) (a .n) (a .t) (s .pre .1) (sym (c .before .before .stands .ensures) ∙ c .before .if1 .taken))
+    λ sheets listed.
+    c .claims-here .ensures sheets listed
+    ∙ sym (entry-some sheets (a .owner .now) (a .order .now) (a .place .now) (a .taken .now) (a .claim .now) (a .standing .now) (a .n) (a .t) (s .pre .1) (sym (c .before .before .stands .ensures) ∙ c .before .if1 .taken))
 
 returns-2 : tie.Need-returns-2
 returns-2 c =
     let s = c .before .before .before .before in
     let a = s .args in
-    sym (entry-none (a .sheets) (a .owner .now) (a .order .now) (a .place .now) (a .taken .now) (a .claim .now) (a .standing .now) (a .n) (a .t) (s .pre .1) (sym (c .before .stands .ensures) ∙ c .if1 .left))
+    λ sheets listed.
+    sym (entry-none sheets (a .owner .now) (a .order .now) (a .place .now) (a .taken .now) (a .claim .now) (a .standing .now) (a .n) (a .t) (s .pre .1) (sym (c .before .stands .ensures) ∙ c .if1 .left))
 
 pub has-entry-spec : {M : Type 1} → statement M
 has-entry-spec =
