@@ -1,7 +1,8 @@
 -- What TAKE stores is its rule's effect.
 use Prim.Native.Nat.{ℕ, _+_, _*_, _≤_, _<_}
 use mathlib.Core.Path.{_≡_, refl, sym, ap, subst, _∙_, fun-ext}
-use mathlib.Core.Bool.{Bool, true, false, _&&_, _||_, cond, or-true, or-false}
+use mathlib.Core.Bool.{Bool, true, false, _&&_, _||_, cond, and-false, or-true, or-false}
+use mathlib.Core.Logic.{_≢_}
 use mathlib.Core.List.{List, [], _∷_, _++_}
 use native.Mathlib.Omega.{arith}
 use native.Mathlib.Numerals.{add-one}
@@ -10,19 +11,21 @@ use lib.Seq.{getD-set-same, getD-set-other, getD-take}
 use lib.Dec.{eqb}
 use borrow.Author.Tests.{eq-eqb, ne-eqb, lt-ltb, le-ltb}
 use Rattle.rules.specs.Bytes.{Take}
-use Rattle.rules.specs.Table.{upd}
+use Rattle.rules.specs.Table.{upd, any}
 use Rattle.rules.specs.State.{claims}
 use Rattle.rules.specs.Steps as rules
 use Rattle.rules.specs.Steps.{finds-invalid}
+use Rattle.rules.proofs.Table.{below?, and-i, clash, any-intro}
 use Rattle.state.specs.declared.Control.{Control}
 use Rattle.state.specs.declared.Verdict.{Verdict}
 use Rattle.state.specs.declared.Verdict.the-variants.{Valid, Invalid}
 use Rattle.state.specs.declared.Answer.the-variants.{Took, Refused}
 use Rattle.state.specs.Places.{at, by}
 use Rattle.state.specs.View.{set?, claim-in, entered, queue-in, view, no-tally, verdict-of, Steps}
-use Rattle.state.specs.Ready.{Ready}
-use Rattle.state.proofs.Tables.{same?, upd-by}
-use Rattle.state.proofs.Stores.{view-set}
+use Rattle.state.specs.Ready.{Ready, Claimed}
+use Rattle.state.proofs.Tables.{bool, same?, upd-by}
+use Rattle.state.proofs.Stores.{view-set, flat-past}
+use Rattle.state.proofs.Listed.{unclaimed}
 use Rattle.state.proofs.Places.{entries-on, entries-cong, order-length}
 use Rattle.state.proofs.Steps.{refused, accepted, same-state}
 
@@ -47,12 +50,25 @@ failed-set l t h = rw or-true (view-set set? l t 1 h)
 failed-keep : (l : List ℕ) (t : ℕ) → _≡_ {A = ℕ → Bool} (λ j. set? (getD l j 0)) (upd (λ j. set? (getD l j 0)) t (set? (getD l t 0) || false))
 failed-keep l t = upd-by (λ j. set? (getD l j 0)) (λ j. set? (getD l j 0)) t (set? (getD l t 0) || false) (sym (or-false (set? (getD l t 0)))) (λ j n. refl)
 
+-- a save that claims a sheet of node n claims one of the header's
+pub here : (sheets : ℕ) (owner claim : List ℕ) (n t v : ℕ) (h : Bool) → t < 32 → Claimed sheets claim → v ≡ cond h 1 0
+    → h ≡ any sheets (λ k. eqb (getD owner k 0) n && claims (claim-in claim t k)) → (k : ℕ) → getD owner k 0 ≡ n → claims (claim-in claim t k) ≡ true → set? v ≡ true
+here sheets owner claim n t v h t32 only e f k o c =
+    below? k 64
+    (λ k64.
+    let z : getD claim (t * 64 + k) 0 ≢ 0 = λ q. clash (claims (claim-in claim t k)) c (unclaimed claim t k q) in
+    let y : h ≡ true = f ∙ any-intro sheets (λ j. eqb (getD owner j 0) n && claims (claim-in claim t j)) k (only t k t32 k64 z) (and-i (eqb (getD owner k 0) n) (claims (claim-in claim t k)) (eq-eqb (getD owner k 0) n o) c) in
+    rw (e, y))
+    (λ far. clash (claims (claim-in claim t k)) c (rw (flat-past claim t k far)))
+
 module _ (d : Control) (ready : Ready d) where
   pub take-9 : (value seen mark claim standing content wct : List ℕ) (n : ℕ) → n < d .nodes → d .placed ≤ getD (d .taken) n 0
       → Steps (view d value seen mark claim standing content wct) (Take n) (view d value seen mark claim standing content wct) (Refused 9)
   take-9 value seen mark claim standing content wct n h l = refused (λ tally. rw (lt-ltb n (d .nodes) h, order-length d (ready .shaped), le-ltb (getD (d .taken) n 0) (d .placed) l))
 
-  module _ (claim standing : List ℕ) (n : ℕ) (n8 : n < 8) (ls : length standing ≡ 256) (h : getD (d .taken) n 0 < d .placed) where
+  -- t's byte becomes v, which is set where t claims a sheet of node n
+  module _ (claim standing : List ℕ) (n v : ℕ) (n8 : n < 8) (ls : length standing ≡ 256) (h : getD (d .taken) n 0 < d .placed)
+      (set-here : (k : ℕ) → getD (d .owner) k 0 ≡ n → claims (claim-in claim (at (d .order) (getD (d .taken) n 0)) k) ≡ true → set? v ≡ true) where
     abbrev p : ℕ
     p = getD (d .taken) n 0
 
@@ -63,7 +79,7 @@ module _ (d : Control) (ready : Ready d) where
     place u = getD (d .place) u 0
 
     abbrev standing′ : List ℕ
-    standing′ = set standing (n * 32 + at (d .order) (getD (d .taken) n 0)) 1
+    standing′ = set standing (n * 32 + at (d .order) (getD (d .taken) n 0)) v
 
     -- the entries of the places before are as they were
     stays : (m k q : ℕ) → q < getD (d .taken) m 0 → entered standing′ claim m k (at (d .order) q) ≡ entered standing claim m k (at (d .order) q)
@@ -72,7 +88,7 @@ module _ (d : Control) (ready : Ready d) where
         let y = ready .takens m in
         let small = ready .small q (omega arith) in
         let s = ready .small p h in
-        rw (getD-set-other standing (n * 32 + t) (m * 32 + at (d .order) q) 1 0 (λ z.
+        rw (getD-set-other standing (n * 32 + t) (m * 32 + at (d .order) q) v 0 (λ z.
         let mn : m ≡ n = omega arith in
         let same : at (d .order) q ≡ t = omega arith in
         let qp : q ≡ p = sym (ready .once q (omega arith)) ∙ ap place same ∙ ready .once p h in
@@ -82,9 +98,11 @@ module _ (d : Control) (ready : Ready d) where
         before e f l = let z : p < p = rw (e, f) at l in omega arith
 
     -- t's own place counts where it claims the sheet
-    joins : (k : ℕ) → by (d .order) place (entered standing′ claim n k) p ≡ claims (claim-in claim t k)
+    joins : (k : ℕ) → getD (d .owner) k 0 ≡ n → by (d .order) place (entered standing′ claim n k) p ≡ claims (claim-in claim t k)
     unfolding by entered
-    joins k = rw (eq-eqb (place t) p (ready .once p h), getD-set-same standing (n * 32 + t) 1 0 (let s = ready .small p h in rw ls (omega arith)))
+    joins k o =
+        rw (eq-eqb (place t) p (ready .once p h), getD-set-same standing (n * 32 + t) v 0 (let s = ready .small p h in rw ls (omega arith)))
+        (bool (claims (claim-in claim t k)) (λ e. rw (e, set-here k o e)) (λ e. rw e (and-false (set? v))))
 
     abbrev Grows : ℕ → ℕ → Type 0
     Grows k m =
@@ -97,12 +115,12 @@ module _ (d : Control) (ready : Ready d) where
     before-same k m =
         entries-cong (d .order) (d .order) place place (entered standing′ claim m k) (entered standing claim m k) (getD (d .taken) m 0) (λ q l. refl) (λ q l. refl) (stays m k)
 
-    grows : (k m : ℕ) → Grows k m
-    grows k m =
+    grows : (k m : ℕ) → getD (d .owner) k 0 ≡ m → Grows k m
+    grows k m o =
         same? m n
         (λ e. subst (Grows k) (sym e)
         (rw (getD-set-same (d .taken) n (p + 1) 0 (rw (ready .shaped .taken) n8), add-one p, eq-eqb n n refl)
-        (entries-on (d .order) place (entered standing′ claim n k) p ∙ rw (joins k, before-same k n))))
+        (entries-on (d .order) place (entered standing′ claim n k) p ∙ rw (joins k (o ∙ e), before-same k n))))
         (λ z. rw (getD-set-other (d .taken) n m (p + 1) 0 z, ne-eqb m n z) (before-same k m))
 
     -- the node finds t invalid, if b, and its verdict is v
@@ -114,7 +132,7 @@ module _ (d : Control) (ready : Ready d) where
         accepted
         (λ tally. rw (lt-ltb n (d .nodes) ln, order-length d (ready .shaped), lt-ltb p (d .placed) h))
         (λ tally. rw nx
-        (same-state refl refl (fun-ext (λ k. grows k (getD (d .owner) k 0))) refl refl refl refl (ef ∙ rw eb) refl refl refl
+        (same-state refl refl (fun-ext (λ k. grows k (getD (d .owner) k 0) refl)) refl refl refl refl (ef ∙ rw eb) refl refl refl
         (view-set (λ x. x) (d .taken) n (p + 1) (rw (ready .shaped .taken) n8) ∙ rw add-one) refl))
         (λ tally. rw (nx, ev, eb))
 

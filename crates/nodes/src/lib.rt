@@ -8,11 +8,19 @@ ghost use lib.Dec.{eqb, leb};
 ghost use Rattle.rules.specs.Bytes.{Take, Apply};
 ghost use Rattle.state.specs.View.{control, view, Steps};
 ghost use Rattle.state.specs.Fill.{fill};
-ghost use Rattle.state.specs.Ready.{Small, Once, Onces, Queued, Ready, Rising, Gone, Behind};
+ghost use Rattle.state.specs.Ready.{Small, Once, Onces, Queued, Ready, Rising, Gone, Behind, Claimed};
+ghost use Rattle.state.specs.Listed.{Listed};
 ghost use Rattle.nodes.specs.Carry.{contents, wcts};
 use state::Answer;
 use state::Session;
 use state::Verdict;
+
+// The byte in `standing` of a save that has an entry at the node, if h.
+fn entry(h: bool) -> u8
+    ensures { λ r. ⌜ r ≡ cond h 1 0 ⌝ }
+{
+    if h { 1 } else { 0 }
+}
 
 // Node n takes the next save of the order.
 pub fn take(
@@ -26,11 +34,13 @@ pub fn take(
     gone: &[u8; Session::NODES],
     seen: &[u32; Session::COPIES],
     claim: &[u8; Session::COPIES],
+    listed: &[u8; Session::COPIES],
+    many: &[u8; Session::SAVES],
     standing: &mut [u8; Session::STANDING],
     wct: &[u32; Session::SHEETS],
     n: u8,
 ) -> Answer
-    requires { ⌜ Queued sheets (now owner) (now order) (now taken) × (nodes ≤ 8) × (placed ≤ 32) × Small (now order) placed × (length (now failed) ≡ 32) × (length (now taken) ≡ 8) × (length (now standing) ≡ 256) × Behind (now order) (now standing) (now taken) (now gone) ⌝ }
+    requires { ⌜ Queued sheets (now owner) (now order) (now taken) × (nodes ≤ 8) × (placed ≤ 32) × Small (now order) placed × (length (now failed) ≡ 32) × (length (now taken) ≡ 8) × (length (now standing) ≡ 256) × Behind (now order) (now standing) (now taken) (now gone) × Claimed sheets (now claim) × Listed sheets (now claim) (now listed) (now many) ⌝ }
     ensures { λ r. ⌜ ((phase runs place value mark content : List ℕ) → Ready (control nodes sheets placed (now (owner .entry)) phase (now (failed .entry)) runs (now (order .entry)) place (now (taken .entry))) → Steps (view (control nodes sheets placed (now (owner .entry)) phase (now (failed .entry)) runs (now (order .entry)) place (now (taken .entry))) value (now (seen .entry)) mark (now (claim .entry)) (now (standing .entry)) content (now (wct .entry))) (Take n) (view (control nodes sheets placed (now (owner .entry)) phase (now (failed .exit)) runs (now (order .entry)) place (now (taken .exit))) value (now (seen .entry)) mark (now (claim .entry)) (now (standing .exit)) content (now (wct .entry))) r) ⌝ }
     ensures kept { λ _. ⌜ (length (now (failed .exit)) ≡ 32) × (length (now (taken .exit)) ≡ 8) × (length (now (standing .exit)) ≡ 256) ⌝ }
     ensures behind { λ _. ⌜ ((place : List ℕ) → Once (now (order .entry)) (λ u. getD place u 0) placed → ((m : ℕ) → getD (now (taken .entry)) m 0 ≤ placed) → Behind (now (order .entry)) (now (standing .exit)) (now (taken .exit)) (now (gone .entry))) ⌝ }
@@ -47,19 +57,21 @@ pub fn take(
     let t = order[pi];
     let ti = t as usize;
     let b = sheets::finds_invalid(
-        sheets,
         owner,
         order,
         taken,
         gone,
         seen,
         claim,
+        listed,
+        many,
         standing,
         wct,
         n,
         t,
     );
-    standing[ni * Session::SAVES + ti] = 1;
+    let e = entry(sheets::claims_here(owner, claim, listed, many, n, t));
+    standing[ni * Session::SAVES + ti] = e;
     taken[ni] = p + 1;
     if b {
         failed[ti] = 1;
@@ -161,13 +173,15 @@ pub fn apply(
     value: &[u32; Session::COPIES],
     mark: &[u8; Session::COPIES],
     claim: &[u8; Session::COPIES],
+    listed: &[u8; Session::COPIES],
+    many: &[u8; Session::SAVES],
     standing: &mut [u8; Session::STANDING],
     content: &mut [u32; Session::SHEETS],
     wct: &mut [u32; Session::SHEETS],
     n: u8,
     t: u8,
 ) -> Answer
-    requires { ⌜ Queued sheets (now owner) (now order) (now taken) × Onces (now order) (now place) (now taken) × (nodes ≤ 8) × (length (now standing) ≡ 256) × (length (now content) ≡ 64) × (length (now wct) ≡ 64) × Rising (now wct) × Behind (now order) (now standing) (now taken) (now gone) ⌝ }
+    requires { ⌜ Queued sheets (now owner) (now order) (now taken) × Onces (now order) (now place) (now taken) × (nodes ≤ 8) × (length (now standing) ≡ 256) × (length (now content) ≡ 64) × (length (now wct) ≡ 64) × Rising (now wct) × Behind (now order) (now standing) (now taken) (now gone) × Listed sheets (now claim) (now listed) (now many) ⌝ }
     ensures { λ r. ⌜ ((placed : ℕ) (failed runs seen : List ℕ) → Steps (view (control nodes sheets placed (now (owner .entry)) (now (phase .entry)) failed runs (now (order .entry)) (now (place .entry)) (now (taken .entry))) (now (value .entry)) seen (now (mark .entry)) (now (claim .entry)) (now (standing .entry)) (now (content .entry)) (now (wct .entry))) (Apply n t) (view (control nodes sheets placed (now (owner .entry)) (now (phase .entry)) failed runs (now (order .entry)) (now (place .entry)) (now (taken .entry))) (now (value .entry)) seen (now (mark .entry)) (now (claim .entry)) (now (standing .exit)) (now (content .exit)) (now (wct .exit))) r) ⌝ }
     ensures kept { λ _. ⌜ (length (now (standing .exit)) ≡ 256) × (length (now (content .exit)) ≡ 64) × (length (now (wct .exit)) ≡ 64) × Behind (now (order .entry)) (now (standing .exit)) (now (taken .entry)) (now (gone .exit)) ⌝ }
 {
@@ -182,7 +196,18 @@ pub fn apply(
     if p < 4 {
         return Answer::Refused(5);
     }
-    let h = sheets::has_entry(sheets, owner, order, place, taken, claim, standing, n, t);
+    let h = sheets::has_entry(
+        owner,
+        order,
+        place,
+        taken,
+        claim,
+        listed,
+        many,
+        standing,
+        n,
+        t,
+    );
     if h {
         carry_out(owner, phase, value, mark, content, wct, n, ti);
         let ni = n as usize;

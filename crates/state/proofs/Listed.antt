@@ -119,6 +119,7 @@ listed-row {sheets} {claim} {listed} {many} l s64 mark more t n t32 lc lm n64 ro
       below = r .below;
       whole = λ k h z. r .whole k h (λ e. z (fill-in (λ j. getD mark (t * 64 + j) 0) (t * 64) 64 claim k (omega arith) (rw lc (omega arith)) ∙ e));
     }
+
     old : (x : ℕ) → x < 32 → x ≢ t
         → Lists sheets (λ k. getD (fill (λ j. getD mark (t * 64 + j) 0) (t * 64) 64 claim) (x * 64 + k) 0) (λ i. getD more (x * 64 + i) 0) (getD many x 0)
     old x h z = record {
