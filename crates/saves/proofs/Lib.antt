@@ -1,3 +1,4 @@
 pub mod Phases
 pub mod Order
+pub mod Listing
 pub mod Decisions

@@ -1,8 +1,9 @@
 // The commands that move a save on: BEGIN, SUBMIT, DECIDE and GIVE UP. Each does what its rule says.
 ghost use Prim.Native.Nat.{ℕ, _+_, _*_, _≤_, _<_};
 ghost use mathlib.Core.Path.{_≡_};
-ghost use mathlib.Core.Bool.{_&&_, _||_, not};
+ghost use mathlib.Core.Bool.{_&&_, _||_, cond, not};
 ghost use mathlib.Core.List.{List, []};
+ghost use lib.Dec.{eqb};
 ghost use lib.ListN.{getD, length};
 ghost use Rattle.rules.specs.Bytes.{Begin, Submit, Decide, GiveUp};
 ghost use Rattle.rules.specs.Table.{all};
@@ -10,6 +11,7 @@ ghost use Rattle.rules.specs.State.{claims};
 ghost use Rattle.rules.specs.Steps.{has-taken, granted};
 ghost use Rattle.state.specs.View.{claim-in, control, view, no-tally, Steps};
 ghost use Rattle.state.specs.Fill.{fill};
+ghost use Rattle.state.specs.Listed.{Listed};
 ghost use Rattle.state.specs.Ready.{Onces, Queued, Ready, Room, Runs, Behind};
 use state::Answer;
 use state::Session;
@@ -67,20 +69,56 @@ fn claim_row(claim: &mut [u8; Session::COPIES], mark: &[u8; Session::COPIES], t:
     }
 }
 
+// 1 where a mark is set.
+fn one(m: u8) -> u8
+    ensures { λ r. ⌜ r ≡ cond (eqb m 0) 0 1 ⌝ }
+{
+    if m == 0 {
+        return 0;
+    }
+    1
+}
+
+// The sheets with a mark of save t are listed. Every sheet is stored and only a marked one counted, so that nothing branches.
+fn list_row(
+    listed: &mut [u8; Session::COPIES],
+    many: &mut [u8; Session::SAVES],
+    mark: &[u8; Session::COPIES],
+    sheets: u8,
+    t: usize,
+)
+    requires { ⌜ (t < 32) × (sheets ≤ 64) ⌝ }
+    ensures { λ _. ⌜ ((claim : List ℕ) → length claim ≡ 2048 → Listed sheets claim (now (listed .entry)) (now (many .entry)) → Listed sheets (fill (λ j. getD (now (mark .entry)) (t * 64 + j) 0) (t * 64) 64 claim) (now (listed .exit)) (now (many .exit))) ⌝ }
+{
+    let mut c: u8 = 0;
+    let mut k: u8 = 0;
+    while k < sheets {
+        let m = mark[t * Session::SHEETS + (k as usize)];
+        listed[t * Session::SHEETS + (c as usize)] = k;
+        c += one(m);
+        k += 1;
+    }
+    many[t] = c;
+}
+
 // First run: the save joins the end of the order with its claim. Second run: it is committed.
 pub fn submit(
+    sheets: u8,
     placed: u8,
     phase: &mut [u8; Session::SAVES],
     order: &mut [u8; Session::SAVES],
     place: &mut [u8; Session::SAVES],
     mark: &[u8; Session::COPIES],
     claim: &mut [u8; Session::COPIES],
+    listed: &mut [u8; Session::COPIES],
+    many: &mut [u8; Session::SAVES],
     t: u8,
 ) -> Stepped
-    requires { ⌜ (placed ≤ 32) × Room (now phase) placed × (length (now phase) ≡ 32) × (length (now order) ≡ 32) × (length (now place) ≡ 32) × (length (now claim) ≡ 2048) ⌝ }
-    ensures { λ r. ⌜ ((nodes sheets : ℕ) (owner failed runs taken value seen standing content wct : List ℕ) → Ready (control nodes sheets placed owner (now (phase .entry)) failed runs (now (order .entry)) (now (place .entry)) taken) → Steps (view (control nodes sheets placed owner (now (phase .entry)) failed runs (now (order .entry)) (now (place .entry)) taken) value seen (now (mark .entry)) (now (claim .entry)) standing content wct) (Submit t) (view (control nodes sheets (r .placed) owner (now (phase .exit)) failed runs (now (order .exit)) (now (place .exit)) taken) value seen (now (mark .entry)) (now (claim .exit)) standing content wct) (r .answer)) ⌝ }
+    requires { ⌜ (placed ≤ 32) × Room (now phase) placed × (length (now phase) ≡ 32) × (length (now order) ≡ 32) × (length (now place) ≡ 32) × (length (now claim) ≡ 2048) × (sheets ≤ 64) ⌝ }
+    ensures { λ r. ⌜ ((nodes : ℕ) (owner failed runs taken value seen standing content wct : List ℕ) → Ready (control nodes sheets placed owner (now (phase .entry)) failed runs (now (order .entry)) (now (place .entry)) taken) → Steps (view (control nodes sheets placed owner (now (phase .entry)) failed runs (now (order .entry)) (now (place .entry)) taken) value seen (now (mark .entry)) (now (claim .entry)) standing content wct) (Submit t) (view (control nodes sheets (r .placed) owner (now (phase .exit)) failed runs (now (order .exit)) (now (place .exit)) taken) value seen (now (mark .entry)) (now (claim .exit)) standing content wct) (r .answer)) ⌝ }
     ensures kept { λ r. ⌜ (r .placed ≤ 32) × (length (now (phase .exit)) ≡ 32) × (length (now (order .exit)) ≡ 32) × (length (now (place .exit)) ≡ 32) × (length (now (claim .exit)) ≡ 2048) ⌝ }
     ensures behind { λ _. ⌜ ((standing taken gone : List ℕ) → ((n : ℕ) → getD taken n 0 ≤ placed) → Behind (now (order .entry)) standing taken gone → Behind (now (order .exit)) standing taken gone) ⌝ }
+    ensures listed { λ _. ⌜ (Listed sheets (now (claim .entry)) (now (listed .entry)) (now (many .entry)) → Listed sheets (now (claim .exit)) (now (listed .exit)) (now (many .exit))) ⌝ }
 {
     if 32 <= t {
         return Stepped {
@@ -92,6 +130,7 @@ pub fn submit(
     let p = phase[ti];
     if p == 1 {
         claim_row(claim, mark, ti);
+        list_row(listed, many, mark, sheets, ti);
         let ai = placed as usize;
         phase[ti] = 2;
         order[ai] = t;

@@ -13,7 +13,7 @@ use Rattle.saves.proofs.submit.Statement.{statement}
 use Rattle.saves.proofs.submit.Tie as tie
 
 returns : tie.Need-returns
-returns c = ((λ nodes sheets owner failed runs taken value seen standing content wct ready. refused (λ tally. simp (le-ltb _ _ (c .if1 .taken)))), (search needs, λ standing taken gone h b. b))
+returns c = ((λ nodes owner failed runs taken value seen standing content wct ready. refused (λ tally. simp (le-ltb _ _ (c .if1 .taken)))), (search needs, ((λ standing taken gone h b. b), λ l. l)))
 
 element-copy-out-p : tie.Need-element-copy-out-p
 element-copy-out-p c = search needs
@@ -21,30 +21,37 @@ element-copy-out-p c = search needs
 claim-row-requires : tie.Need-claim-row-requires
 claim-row-requires c κs = search needs
 
+list-row-requires : tie.Need-list-row-requires
+list-row-requires c κs = search needs
+
 element-write-phase : tie.Need-element-write-phase
 element-write-phase c = search needs
 
 element-write-order : tie.Need-element-write-order
 element-write-order c =
-    let room = c .before .before .before .before .before .pre .1 (c .before .before .before .before .before .args .t) (c .before .before .before .before .if1 .left) (c .before .before .if2 .taken) in
-    omega (arith, c .before .before .before .before .before .pre .3)
+    let q = c .before .before .before .before .before in
+    let s = q .before .before .before in
+    let room = s .pre .1 (s .args .t) (q .before .before .if1 .left) (q .if2 .taken) in
+    omega (arith, s .pre .3)
 
 element-write-place : tie.Need-element-write-place
 element-write-place c = search needs
 
-add-t25 : tie.Need-add-t25
-add-t25 c = search needs
+add-t30 : tie.Need-add-t30
+add-t30 c = search needs
 
 returns-2 : tie.Need-returns-2
 returns-2 c =
-    let s = c .before .before .before .before .before in
+    let r = c .before .before .before .claim-row .ensures in
+    let q = c .before .before .before .before .before in
+    let s = q .before .before .before in
     let a = s .args in
-    let t32 = c .before .before .before .before .if1 .left in
-    let first = c .before .before .if2 .taken in
+    let t32 = q .before .before .if1 .left in
+    let first = q .if2 .taken in
     let room = s .pre .1 (a .t) t32 first in (
-      (λ nodes sheets owner failed runs taken value seen standing content wct ready.
-          rw (c .claim-row .ensures) (submit-first (control nodes sheets (a .placed) owner (a .phase .now) failed runs (a .order .now) (a .place .now) taken) (a .mark .now) (a .claim .now) (a .t) t32 first ready value seen standing content wct (s .pre .5))),
-      ((omega arith, rw length-set (s .pre .2), rw length-set (s .pre .3), rw length-set (s .pre .4), rw (c .claim-row .ensures, length-fill) (s .pre .5)), λ standing taken gone h b. behind-placed b (a .placed) (a .t) h),
+      (λ nodes owner failed runs taken value seen standing content wct ready.
+          rw r (submit-first (control nodes (a .sheets) (a .placed) owner (a .phase .now) failed runs (a .order .now) (a .place .now) taken) (a .mark .now) (a .claim .now) (a .t) t32 first ready value seen standing content wct (s .pre .5))),
+      ((omega arith, rw length-set (s .pre .2), rw length-set (s .pre .3), rw length-set (s .pre .4), rw (r, length-fill) (s .pre .5)), ((λ standing taken gone h b. behind-placed b (a .placed) (a .t) h), λ l. rw r (c .list-row .ensures (a .claim .now) (s .pre .5) l))),
     )
 
 element-write-phase-2 : tie.Need-element-write-phase-2
@@ -54,15 +61,15 @@ returns-3 : tie.Need-returns-3
 returns-3 c =
     let s = c .before .before .before .before in
     let a = s .args in (
-      (λ nodes sheets owner failed runs taken value seen standing content wct ready. submit-second (control nodes sheets (a .placed) owner (a .phase .now) failed runs (a .order .now) (a .place .now) taken) value seen (a .mark .now) (a .claim .now) standing content wct (a .t) (c .before .before .before .if1 .left) (s .pre .2) (c .if3 .taken)),
-      ((s .pre .0, rw length-set (s .pre .2), s .pre .3, s .pre .4, s .pre .5), λ standing taken gone h b. b),
+      (λ nodes owner failed runs taken value seen standing content wct ready. submit-second (control nodes (a .sheets) (a .placed) owner (a .phase .now) failed runs (a .order .now) (a .place .now) taken) value seen (a .mark .now) (a .claim .now) standing content wct (a .t) (c .before .before .before .if1 .left) (s .pre .2) (c .if3 .taken)),
+      ((s .pre .0, rw length-set (s .pre .2), s .pre .3, s .pre .4, s .pre .5), ((λ standing taken gone h b. b), λ l. l)),
     )
 
 returns-4 : tie.Need-returns-4
 returns-4 c =
     let s = c .before .before .before .before in
     let a = s .args in
-    ((λ nodes sheets owner failed runs taken value seen standing content wct ready. submit-5 (control nodes sheets (a .placed) owner (a .phase .now) failed runs (a .order .now) (a .place .now) taken) value seen (a .mark .now) (a .claim .now) standing content wct (a .t) (c .before .before .before .if1 .left) (c .before .if2 .left) (c .if3 .left)), (search needs, λ standing taken gone h b. b))
+    ((λ nodes owner failed runs taken value seen standing content wct ready. submit-5 (control nodes (a .sheets) (a .placed) owner (a .phase .now) failed runs (a .order .now) (a .place .now) taken) value seen (a .mark .now) (a .claim .now) standing content wct (a .t) (c .before .before .before .if1 .left) (c .before .if2 .left) (c .if3 .left)), (search needs, ((λ standing taken gone h b. b), λ l. l)))
 
 pub submit-spec : {M : Type 1} → statement M
 submit-spec =
@@ -71,10 +78,11 @@ submit-spec =
     returns
     element-copy-out-p
     claim-row-requires
+    list-row-requires
     element-write-phase
     element-write-order
     element-write-place
-    add-t25
+    add-t30
     returns-2
     element-write-phase-2
     returns-3
