@@ -9,7 +9,7 @@ ghost use Rattle.rules.specs.Bytes.{Take, Apply};
 ghost use Rattle.state.specs.View.{control, view, Steps};
 ghost use Rattle.state.specs.Fill.{fill};
 ghost use Rattle.state.specs.Ready.{Small, Once, Onces, Queued, Ready, Rising, Gone, Behind, Claimed};
-ghost use Rattle.state.specs.Listed.{Listed};
+ghost use Rattle.state.specs.Listed.{Rows, Listed};
 ghost use Rattle.nodes.specs.Carry.{contents, wcts};
 use state::Answer;
 use state::Session;
@@ -25,7 +25,6 @@ fn entry(h: bool) -> u8
 // Node n takes the next save of the order.
 pub fn take(
     nodes: u8,
-    sheets: u8,
     placed: u8,
     owner: &[u8; Session::SHEETS],
     failed: &mut [u8; Session::SAVES],
@@ -40,8 +39,8 @@ pub fn take(
     wct: &[u32; Session::SHEETS],
     n: u8,
 ) -> Answer
-    requires { ⌜ Queued sheets (now owner) (now order) (now taken) × (nodes ≤ 8) × (placed ≤ 32) × Small (now order) placed × (length (now failed) ≡ 32) × (length (now taken) ≡ 8) × (length (now standing) ≡ 256) × Behind (now order) (now standing) (now taken) (now gone) × Claimed sheets (now claim) × Listed sheets (now claim) (now listed) (now many) ⌝ }
-    ensures { λ r. ⌜ ((phase runs place value mark content : List ℕ) → Ready (control nodes sheets placed (now (owner .entry)) phase (now (failed .entry)) runs (now (order .entry)) place (now (taken .entry))) → Steps (view (control nodes sheets placed (now (owner .entry)) phase (now (failed .entry)) runs (now (order .entry)) place (now (taken .entry))) value (now (seen .entry)) mark (now (claim .entry)) (now (standing .entry)) content (now (wct .entry))) (Take n) (view (control nodes sheets placed (now (owner .entry)) phase (now (failed .exit)) runs (now (order .entry)) place (now (taken .exit))) value (now (seen .entry)) mark (now (claim .entry)) (now (standing .exit)) content (now (wct .entry))) r) ⌝ }
+    requires { ⌜ Queued 64 (now owner) (now order) (now taken) × (nodes ≤ 8) × (placed ≤ 32) × Small (now order) placed × (length (now failed) ≡ 32) × (length (now taken) ≡ 8) × (length (now standing) ≡ 256) × Behind (now order) (now standing) (now taken) (now gone) × Rows (now listed) (now many) ⌝ }
+    ensures { λ r. ⌜ ((sheets : ℕ) (phase runs place value mark content : List ℕ) → Claimed sheets (now (claim .entry)) → Listed sheets (now (claim .entry)) (now (listed .entry)) (now (many .entry)) → Ready (control nodes sheets placed (now (owner .entry)) phase (now (failed .entry)) runs (now (order .entry)) place (now (taken .entry))) → Steps (view (control nodes sheets placed (now (owner .entry)) phase (now (failed .entry)) runs (now (order .entry)) place (now (taken .entry))) value (now (seen .entry)) mark (now (claim .entry)) (now (standing .entry)) content (now (wct .entry))) (Take n) (view (control nodes sheets placed (now (owner .entry)) phase (now (failed .exit)) runs (now (order .entry)) place (now (taken .exit))) value (now (seen .entry)) mark (now (claim .entry)) (now (standing .exit)) content (now (wct .entry))) r) ⌝ }
     ensures kept { λ _. ⌜ (length (now (failed .exit)) ≡ 32) × (length (now (taken .exit)) ≡ 8) × (length (now (standing .exit)) ≡ 256) ⌝ }
     ensures behind { λ _. ⌜ ((place : List ℕ) → Once (now (order .entry)) (λ u. getD place u 0) placed → ((m : ℕ) → getD (now (taken .entry)) m 0 ≤ placed) → Behind (now (order .entry)) (now (standing .exit)) (now (taken .exit)) (now (gone .entry))) ⌝ }
 {
@@ -163,7 +162,6 @@ fn behind(
 // Node n carries out save t's outcome, and t's entries there go.
 pub fn apply(
     nodes: u8,
-    sheets: u8,
     owner: &[u8; Session::SHEETS],
     phase: &[u8; Session::SAVES],
     order: &[u8; Session::SAVES],
@@ -181,8 +179,8 @@ pub fn apply(
     n: u8,
     t: u8,
 ) -> Answer
-    requires { ⌜ Queued sheets (now owner) (now order) (now taken) × Onces (now order) (now place) (now taken) × (nodes ≤ 8) × (length (now standing) ≡ 256) × (length (now content) ≡ 64) × (length (now wct) ≡ 64) × Rising (now wct) × Behind (now order) (now standing) (now taken) (now gone) × Listed sheets (now claim) (now listed) (now many) ⌝ }
-    ensures { λ r. ⌜ ((placed : ℕ) (failed runs seen : List ℕ) → Steps (view (control nodes sheets placed (now (owner .entry)) (now (phase .entry)) failed runs (now (order .entry)) (now (place .entry)) (now (taken .entry))) (now (value .entry)) seen (now (mark .entry)) (now (claim .entry)) (now (standing .entry)) (now (content .entry)) (now (wct .entry))) (Apply n t) (view (control nodes sheets placed (now (owner .entry)) (now (phase .entry)) failed runs (now (order .entry)) (now (place .entry)) (now (taken .entry))) (now (value .entry)) seen (now (mark .entry)) (now (claim .entry)) (now (standing .exit)) (now (content .exit)) (now (wct .exit))) r) ⌝ }
+    requires { ⌜ Queued 64 (now owner) (now order) (now taken) × Onces (now order) (now place) (now taken) × (nodes ≤ 8) × (length (now standing) ≡ 256) × (length (now content) ≡ 64) × (length (now wct) ≡ 64) × Rising (now wct) × Behind (now order) (now standing) (now taken) (now gone) × Rows (now listed) (now many) ⌝ }
+    ensures { λ r. ⌜ ((sheets placed : ℕ) (failed runs seen : List ℕ) → Listed sheets (now (claim .entry)) (now (listed .entry)) (now (many .entry)) → Steps (view (control nodes sheets placed (now (owner .entry)) (now (phase .entry)) failed runs (now (order .entry)) (now (place .entry)) (now (taken .entry))) (now (value .entry)) seen (now (mark .entry)) (now (claim .entry)) (now (standing .entry)) (now (content .entry)) (now (wct .entry))) (Apply n t) (view (control nodes sheets placed (now (owner .entry)) (now (phase .entry)) failed runs (now (order .entry)) (now (place .entry)) (now (taken .entry))) (now (value .entry)) seen (now (mark .entry)) (now (claim .entry)) (now (standing .exit)) (now (content .exit)) (now (wct .exit))) r) ⌝ }
     ensures kept { λ _. ⌜ (length (now (standing .exit)) ≡ 256) × (length (now (content .exit)) ≡ 64) × (length (now (wct .exit)) ≡ 64) × Behind (now (order .entry)) (now (standing .exit)) (now (taken .entry)) (now (gone .exit)) ⌝ }
 {
     if nodes <= n {

@@ -11,7 +11,7 @@ ghost use Rattle.rules.specs.State.{claims};
 ghost use Rattle.rules.specs.Steps.{has-taken, granted};
 ghost use Rattle.state.specs.View.{claim-in, control, view, no-tally, Steps};
 ghost use Rattle.state.specs.Fill.{fill};
-ghost use Rattle.state.specs.Listed.{Listed};
+ghost use Rattle.state.specs.Listed.{Rows, Listed};
 ghost use Rattle.state.specs.Ready.{Onces, Queued, Ready, Room, Runs, Behind};
 use state::Answer;
 use state::Session;
@@ -167,29 +167,29 @@ fn clear_row(mark: &mut [u8; Session::COPIES], t: usize)
 
 // Save t was taken by every node that owns a claimed sheet, and its entries are granted.
 fn decidable(
-    sheets: u8,
     owner: &[u8; Session::SHEETS],
     order: &[u8; Session::SAVES],
     place: &[u8; Session::SAVES],
     taken: &[u8; Session::NODES],
     gone: &[u8; Session::NODES],
     claim: &[u8; Session::COPIES],
+    listed: &[u8; Session::COPIES],
+    many: &[u8; Session::SAVES],
     standing: &[u8; Session::STANDING],
     t: u8,
 ) -> bool
-    requires { ⌜ Queued sheets (now owner) (now order) (now taken) × Onces (now order) (now place) (now taken) × (t < 32) × Behind (now order) (now standing) (now taken) (now gone) ⌝ }
-    ensures { λ r. ⌜ r ≡ (all sheets (λ k. not (claims (claim-in (now (claim .entry)) t k)) || has-taken (view (control 0 sheets 0 (now (owner .entry)) [] [] [] [] (now (place .entry)) (now (taken .entry))) [] [] [] (now (claim .entry)) [] [] [] no-tally) (getD (now (owner .entry)) k 0) t) && all sheets (λ k. granted (view (control 0 sheets 0 (now (owner .entry)) [] [] [] (now (order .entry)) (now (place .entry)) (now (taken .entry))) [] [] [] (now (claim .entry)) (now (standing .entry)) [] [] no-tally) t k)) ⌝ }
+    requires { ⌜ Queued 64 (now owner) (now order) (now taken) × Onces (now order) (now place) (now taken) × (t < 32) × Behind (now order) (now standing) (now taken) (now gone) × Rows (now listed) (now many) ⌝ }
+    ensures { λ r. ⌜ ((sheets : ℕ) → Listed sheets (now (claim .entry)) (now (listed .entry)) (now (many .entry)) → r ≡ (all sheets (λ k. not (claims (claim-in (now (claim .entry)) t k)) || has-taken (view (control 0 sheets 0 (now (owner .entry)) [] [] [] [] (now (place .entry)) (now (taken .entry))) [] [] [] (now (claim .entry)) [] [] [] no-tally) (getD (now (owner .entry)) k 0) t) && all sheets (λ k. granted (view (control 0 sheets 0 (now (owner .entry)) [] [] [] (now (order .entry)) (now (place .entry)) (now (taken .entry))) [] [] [] (now (claim .entry)) (now (standing .entry)) [] [] no-tally) t k))) ⌝ }
 {
-    let h = sheets::all_taken(sheets, owner, place, taken, claim, t);
+    let h = sheets::all_taken(owner, place, taken, claim, listed, many, t);
     if !h {
         return false;
     }
-    sheets::all_granted(sheets, owner, order, taken, gone, claim, standing, t)
+    sheets::all_granted(owner, order, taken, gone, claim, listed, many, standing, t)
 }
 
 // A save that did not fail is committed, a failed one enters its second run.
 pub fn decide(
-    sheets: u8,
     owner: &[u8; Session::SHEETS],
     phase: &mut [u8; Session::SAVES],
     failed: &[u8; Session::SAVES],
@@ -200,11 +200,13 @@ pub fn decide(
     gone: &[u8; Session::NODES],
     mark: &mut [u8; Session::COPIES],
     claim: &[u8; Session::COPIES],
+    listed: &[u8; Session::COPIES],
+    many: &[u8; Session::SAVES],
     standing: &[u8; Session::STANDING],
     t: u8,
 ) -> Answer
-    requires { ⌜ Queued sheets (now owner) (now order) (now taken) × Onces (now order) (now place) (now taken) × Runs (now runs) × (length (now phase) ≡ 32) × (length (now runs) ≡ 32) × (length (now mark) ≡ 2048) × Behind (now order) (now standing) (now taken) (now gone) ⌝ }
-    ensures { λ r. ⌜ ((nodes placed : ℕ) (value seen content wct : List ℕ) → Steps (view (control nodes sheets placed (now (owner .entry)) (now (phase .entry)) (now (failed .entry)) (now (runs .entry)) (now (order .entry)) (now (place .entry)) (now (taken .entry))) value seen (now (mark .entry)) (now (claim .entry)) (now (standing .entry)) content wct) (Decide t) (view (control nodes sheets placed (now (owner .entry)) (now (phase .exit)) (now (failed .entry)) (now (runs .exit)) (now (order .entry)) (now (place .entry)) (now (taken .entry))) value seen (now (mark .exit)) (now (claim .entry)) (now (standing .entry)) content wct) r) ⌝ }
+    requires { ⌜ Queued 64 (now owner) (now order) (now taken) × Onces (now order) (now place) (now taken) × Runs (now runs) × (length (now phase) ≡ 32) × (length (now runs) ≡ 32) × (length (now mark) ≡ 2048) × Behind (now order) (now standing) (now taken) (now gone) × Rows (now listed) (now many) ⌝ }
+    ensures { λ r. ⌜ ((nodes sheets placed : ℕ) (value seen content wct : List ℕ) → Listed sheets (now (claim .entry)) (now (listed .entry)) (now (many .entry)) → Steps (view (control nodes sheets placed (now (owner .entry)) (now (phase .entry)) (now (failed .entry)) (now (runs .entry)) (now (order .entry)) (now (place .entry)) (now (taken .entry))) value seen (now (mark .entry)) (now (claim .entry)) (now (standing .entry)) content wct) (Decide t) (view (control nodes sheets placed (now (owner .entry)) (now (phase .exit)) (now (failed .entry)) (now (runs .exit)) (now (order .entry)) (now (place .entry)) (now (taken .entry))) value seen (now (mark .exit)) (now (claim .entry)) (now (standing .entry)) content wct) r) ⌝ }
     ensures kept { λ _. ⌜ (length (now (phase .exit)) ≡ 32) × (length (now (runs .exit)) ≡ 32) × (length (now (mark .exit)) ≡ 2048) ⌝ }
 {
     if 32 <= t {
@@ -215,7 +217,18 @@ pub fn decide(
     if p != 2 {
         return Answer::Refused(5);
     }
-    let g = decidable(sheets, owner, order, place, taken, gone, claim, standing, t);
+    let g = decidable(
+        owner,
+        order,
+        place,
+        taken,
+        gone,
+        claim,
+        listed,
+        many,
+        standing,
+        t,
+    );
     if !g {
         return Answer::Refused(10);
     }

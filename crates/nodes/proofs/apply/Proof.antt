@@ -9,16 +9,15 @@ use Rattle.state.proofs.Stores.{length-fill}
 use Rattle.state.proofs.Steps.{refused}
 use Rattle.state.proofs.Behind.{behind-left, behind-on}
 use Rattle.nodes.proofs.Leaves.{apply-steps, apply-5, apply-11}
-use Rattle.state.proofs.Listed.{queued-64}
 use borrow.Author.Needs.{needs}
 use Rattle.nodes.proofs.apply.Statement.{statement}
 use Rattle.nodes.proofs.apply.Tie as tie
 
 returns : tie.Need-returns
-returns c = ((λ placed failed runs seen. refused (λ tally. simp (le-ltb _ _ (c .if1 .taken)))), (c .before .pre .3, c .before .pre .4, c .before .pre .5, c .before .pre .7))
+returns c = ((λ sheets placed failed runs seen listed. refused (λ tally. simp (le-ltb _ _ (c .if1 .taken)))), (c .before .pre .3, c .before .pre .4, c .before .pre .5, c .before .pre .7))
 
 returns-2 : tie.Need-returns-2
-returns-2 c = ((λ placed failed runs seen. refused (λ tally. simp (lt-ltb _ _ (c .before .if1 .left), le-ltb _ _ (c .if2 .taken)))), (c .before .before .pre .3, c .before .before .pre .4, c .before .before .pre .5, c .before .before .pre .7))
+returns-2 c = ((λ sheets placed failed runs seen listed. refused (λ tally. simp (lt-ltb _ _ (c .before .if1 .left), le-ltb _ _ (c .if2 .taken)))), (c .before .before .pre .3, c .before .before .pre .4, c .before .before .pre .5, c .before .before .pre .7))
 
 element-copy-out-p : tie.Need-element-copy-out-p
 element-copy-out-p c = search needs
@@ -27,10 +26,10 @@ returns-3 : tie.Need-returns-3
 returns-3 c =
     let s = c .before .before .before .before in
     let a = s .args in
-    ((λ placed failed runs seen. apply-5 (control (a .nodes) (a .sheets) placed (a .owner .now) (a .phase .now) failed runs (a .order .now) (a .place .now) (a .taken .now)) (a .value .now) seen (a .mark .now) (a .claim .now) (a .standing .now) (a .content .now) (a .wct .now) (a .n) (a .t) (s .pre .0 .small) (c .before .before .if2 .left) (s .pre .3) (omega (arith, s .pre .2, c .before .before .before .if1 .left)) (c .before .before .before .if1 .left) (c .if3 .taken)), (s .pre .3, s .pre .4, s .pre .5, s .pre .7))
+    ((λ sheets placed failed runs seen listed. apply-5 (control (a .nodes) sheets placed (a .owner .now) (a .phase .now) failed runs (a .order .now) (a .place .now) (a .taken .now)) (a .value .now) seen (a .mark .now) (a .claim .now) (a .standing .now) (a .content .now) (a .wct .now) (a .n) (a .t) (s .pre .0 .small) (c .before .before .if2 .left) (s .pre .3) (omega (arith, s .pre .2, c .before .before .before .if1 .left)) (c .before .before .before .if1 .left) (c .if3 .taken)), (s .pre .3, s .pre .4, s .pre .5, s .pre .7))
 
 has-entry-requires : tie.Need-has-entry-requires
-has-entry-requires c κs = let s = c .before .before .before .before .before in (queued-64 (s .pre .0), s .pre .1, omega (arith, s .pre .2), search needs, s .pre .8 .rows)
+has-entry-requires c κs = let s = c .before .before .before .before .before in (s .pre .0, s .pre .1, omega (arith, s .pre .2), search needs, s .pre .8)
 
 carry-out-requires : tie.Need-carry-out-requires
 carry-out-requires c κs = (search needs, c .before .before .before .before .before .before .before .before .before .pre .6)
@@ -63,10 +62,10 @@ returns-4 : tie.Need-returns-4
 returns-4 c =
     let s = c .before .before .before .before .before .before .before .before .before .before .before .before .before .before in
     let a = s .args in (
-      (λ placed failed runs seen.
+      (λ sheets placed failed runs seen listed.
           rw (c .before .before .before .before .carry-out .ensures .0, c .before .before .before .before .carry-out .ensures .1)
-          (apply-steps (control (a .nodes) (a .sheets) placed (a .owner .now) (a .phase .now) failed runs (a .order .now) (a .place .now) (a .taken .now)) (a .value .now) seen (a .mark .now) (a .claim .now) (a .standing .now) (a .content .now) (a .wct .now) (a .n) (a .t) (s .pre .0 .small) (c .before .before .before .before .before .before .before .before .before .before .before .before .if2 .left) (s .pre .3) (omega (arith, s .pre .2, c .before .before .before .before .before .before .before .before .before .before .before .before .before .if1 .left))
-          (c .before .before .before .before .before .before .before .before .before .before .before .before .before .if1 .left) (c .before .before .before .before .before .before .before .before .before .before .if3 .left) (s .pre .4) (s .pre .5) (sym (c .before .before .before .before .before .before .before .if4 .taken) ∙ c .before .before .before .before .before .before .before .before .has-entry .ensures (a .sheets) (s .pre .8)))),
+          (apply-steps (control (a .nodes) sheets placed (a .owner .now) (a .phase .now) failed runs (a .order .now) (a .place .now) (a .taken .now)) (a .value .now) seen (a .mark .now) (a .claim .now) (a .standing .now) (a .content .now) (a .wct .now) (a .n) (a .t) (s .pre .0 .small) (c .before .before .before .before .before .before .before .before .before .before .before .before .if2 .left) (s .pre .3) (omega (arith, s .pre .2, c .before .before .before .before .before .before .before .before .before .before .before .before .before .if1 .left))
+          (c .before .before .before .before .before .before .before .before .before .before .before .before .before .if1 .left) (c .before .before .before .before .before .before .before .before .before .before .if3 .left) (s .pre .4) (s .pre .5) (sym (c .before .before .before .before .before .before .before .if4 .taken) ∙ c .before .before .before .before .before .before .before .before .has-entry .ensures sheets listed))),
       (
         rw length-set (s .pre .3),
         rw (c .before .before .before .before .carry-out .ensures .0, length-fill) (s .pre .4),
@@ -79,7 +78,7 @@ returns-5 : tie.Need-returns-5
 returns-5 c =
     let s = c .before .before .before .before .before .before .before in
     let a = s .args in
-    ((λ placed failed runs seen. apply-11 (control (a .nodes) (a .sheets) placed (a .owner .now) (a .phase .now) failed runs (a .order .now) (a .place .now) (a .taken .now)) (a .value .now) seen (a .mark .now) (a .claim .now) (a .standing .now) (a .content .now) (a .wct .now) (a .n) (a .t) (s .pre .0 .small) (c .before .before .before .before .before .if2 .left) (s .pre .3) (omega (arith, s .pre .2, c .before .before .before .before .before .before .if1 .left)) (c .before .before .before .before .before .before .if1 .left) (c .before .before .before .if3 .left) (sym (c .if4 .left) ∙ c .before .has-entry .ensures (a .sheets) (s .pre .8))), (s .pre .3, s .pre .4, s .pre .5, s .pre .7))
+    ((λ sheets placed failed runs seen listed. apply-11 (control (a .nodes) sheets placed (a .owner .now) (a .phase .now) failed runs (a .order .now) (a .place .now) (a .taken .now)) (a .value .now) seen (a .mark .now) (a .claim .now) (a .standing .now) (a .content .now) (a .wct .now) (a .n) (a .t) (s .pre .0 .small) (c .before .before .before .before .before .if2 .left) (s .pre .3) (omega (arith, s .pre .2, c .before .before .before .before .before .before .if1 .left)) (c .before .before .before .before .before .before .if1 .left) (c .before .before .before .if3 .left) (sym (c .if4 .left) ∙ c .before .has-entry .ensures sheets listed)), (s .pre .3, s .pre .4, s .pre .5, s .pre .7))
 
 pub apply-spec : {M : Type 1} → statement M
 apply-spec =

@@ -6,7 +6,6 @@ use borrow.Author.Tests.{le-ltb}
 use Rattle.state.specs.View.{control}
 use Rattle.state.proofs.Ready.{onces}
 use Rattle.state.proofs.Behind.{behind-taken}
-use Rattle.state.proofs.Listed.{queued-64}
 use Rattle.state.proofs.Steps.{refused}
 use Rattle.nodes.proofs.Joins.{here, take-9, take-invalid, take-valid}
 use borrow.Author.Needs.{needs}
@@ -14,7 +13,7 @@ use Rattle.nodes.proofs.take.Statement.{statement}
 use Rattle.nodes.proofs.take.Tie as tie
 
 returns : tie.Need-returns
-returns c = ((λ phase runs place value mark content ready. refused (λ tally. simp (le-ltb _ _ (c .if1 .taken)))), (search needs, λ place once h. c .before .pre .7))
+returns c = ((λ sheets phase runs place value mark content only listed ready. refused (λ tally. simp (le-ltb _ _ (c .if1 .taken)))), (search needs, λ place once h. c .before .pre .7))
 
 element-copy-out-p : tie.Need-element-copy-out-p
 element-copy-out-p c = search needs
@@ -23,7 +22,7 @@ returns-2 : tie.Need-returns-2
 returns-2 c =
     let s = c .before .before .before in
     let a = s .args in
-    ((λ phase runs place value mark content ready. take-9 (control (a .nodes) (a .sheets) (a .placed) (a .owner .now) phase (a .failed .now) runs (a .order .now) place (a .taken .now)) ready value (a .seen .now) mark (a .claim .now) (a .standing .now) content (a .wct .now) (a .n) (c .before .before .if1 .left) (c .if2 .taken)), (search needs, λ place once h. s .pre .7))
+    ((λ sheets phase runs place value mark content only listed ready. take-9 (control (a .nodes) sheets (a .placed) (a .owner .now) phase (a .failed .now) runs (a .order .now) place (a .taken .now)) ready value (a .seen .now) mark (a .claim .now) (a .standing .now) content (a .wct .now) (a .n) (c .before .before .if1 .left) (c .if2 .taken)), (search needs, λ place once h. s .pre .7))
 
 cast-pi : tie.Need-cast-pi
 cast-pi c = omega (arith, c .before .before .before .pre .0 .takens (c .before .before .before .args .n))
@@ -37,10 +36,10 @@ cast-ti c = omega (arith, c .before .before .before .before .pre .3 (getD (c .be
 finds-invalid-requires : tie.Need-finds-invalid-requires
 finds-invalid-requires c κs =
     let s = c .before .before .before .before .before .before in
-    (queued-64 (s .pre .0), omega (arith, s .pre .1), s .pre .3 (getD (s .args .taken .now) (s .args .n) 0) (c .before .before .before .if2 .left), s .pre .7, s .pre .9 .rows)
+    (s .pre .0, omega (arith, s .pre .1), s .pre .3 (getD (s .args .taken .now) (s .args .n) 0) (c .before .before .before .if2 .left), s .pre .7, s .pre .8)
 
 claims-here-requires : tie.Need-claims-here-requires
-claims-here-requires c κs = let s = c .before .before .before .before .before .before .before in (s .pre .3 (getD (s .args .taken .now) (s .args .n) 0) (c .before .before .before .before .if2 .left), s .pre .9 .rows)
+claims-here-requires c κs = let s = c .before .before .before .before .before .before .before in (s .pre .3 (getD (s .args .taken .now) (s .args .n) 0) (c .before .before .before .before .if2 .left), s .pre .8)
 
 entry-requires : tie.Need-entry-requires
 entry-requires c κs = search needs
@@ -66,22 +65,22 @@ element-write-failed c = omega (arith, c .before .before .before .before .before
 returns-3 : tie.Need-returns-3
 returns-3 c =
     let s = c .before .before .before .before .before .before .before .before .before .before in
-    let a = s .args in
-    let set-here = here (a .sheets) (a .owner .now) (a .claim .now) (a .n) (getD (a .order .now) (getD (a .taken .now) (a .n) 0) 0) (c .before .entry .result) (c .before .before .claims-here .result) (s .pre .3 _ (c .before .before .before .before .before .before .before .if2 .left)) (s .pre .8) (c .before .entry .ensures) (c .before .before .claims-here .ensures (a .sheets) (s .pre .9)) in (
-      (λ phase runs place value mark content ready.
-          take-invalid (control (a .nodes) (a .sheets) (a .placed) (a .owner .now) phase (a .failed .now) runs (a .order .now) place (a .taken .now)) ready (a .claim .now) (a .standing .now) (a .n) (c .before .entry .result) (omega (arith, s .pre .1, c .before .before .before .before .before .before .before .before .before .if1 .left)) (s .pre .6) (c .before .before .before .before .before .before .before .if2 .left) set-here value (a .seen .now) mark content (a .wct .now)
-          (c .before .before .before .before .before .before .before .before .before .if1 .left) (sym (c .if3 .taken) ∙ c .before .before .before .finds-invalid .ensures (a .sheets) place (s .pre .9) (onces (control (a .nodes) (a .sheets) (a .placed) (a .owner .now) phase (a .failed .now) runs (a .order .now) place (a .taken .now)) ready))),
+    let a = s .args in (
+      (λ sheets phase runs place value mark content only listed ready.
+          take-invalid (control (a .nodes) sheets (a .placed) (a .owner .now) phase (a .failed .now) runs (a .order .now) place (a .taken .now)) ready (a .claim .now) (a .standing .now) (a .n) (c .before .entry .result) (omega (arith, s .pre .1, c .before .before .before .before .before .before .before .before .before .if1 .left)) (s .pre .6) (c .before .before .before .before .before .before .before .if2 .left)
+          (here sheets (a .owner .now) (a .claim .now) (a .n) (getD (a .order .now) (getD (a .taken .now) (a .n) 0) 0) (c .before .entry .result) (c .before .before .claims-here .result) (s .pre .3 _ (c .before .before .before .before .before .before .before .if2 .left)) only (c .before .entry .ensures) (c .before .before .claims-here .ensures sheets listed)) value (a .seen .now) mark content (a .wct .now)
+          (c .before .before .before .before .before .before .before .before .before .if1 .left) (sym (c .if3 .taken) ∙ c .before .before .before .finds-invalid .ensures sheets place listed (onces (control (a .nodes) sheets (a .placed) (a .owner .now) phase (a .failed .now) runs (a .order .now) place (a .taken .now)) ready))),
       ((rw length-set (s .pre .4), rw length-set (s .pre .5), rw length-set (s .pre .6)), (λ place once h. behind-taken (s .pre .7) (λ u. getD place u 0) (a .placed) (a .n) (c .before .entry .result) once (s .pre .3) h (c .before .before .before .before .before .before .before .if2 .left) (rw (s .pre .5) (omega (arith, s .pre .1, c .before .before .before .before .before .before .before .before .before .if1 .left))))),
     )
 
 returns-4 : tie.Need-returns-4
 returns-4 c =
     let s = c .before .before .before .before .before .before .before .before .before .before in
-    let a = s .args in
-    let set-here = here (a .sheets) (a .owner .now) (a .claim .now) (a .n) (getD (a .order .now) (getD (a .taken .now) (a .n) 0) 0) (c .before .entry .result) (c .before .before .claims-here .result) (s .pre .3 _ (c .before .before .before .before .before .before .before .if2 .left)) (s .pre .8) (c .before .entry .ensures) (c .before .before .claims-here .ensures (a .sheets) (s .pre .9)) in (
-      (λ phase runs place value mark content ready.
-          take-valid (control (a .nodes) (a .sheets) (a .placed) (a .owner .now) phase (a .failed .now) runs (a .order .now) place (a .taken .now)) ready (a .claim .now) (a .standing .now) (a .n) (c .before .entry .result) (omega (arith, s .pre .1, c .before .before .before .before .before .before .before .before .before .if1 .left)) (s .pre .6) (c .before .before .before .before .before .before .before .if2 .left) set-here value (a .seen .now) mark content (a .wct .now)
-          (c .before .before .before .before .before .before .before .before .before .if1 .left) (sym (c .if3 .left) ∙ c .before .before .before .finds-invalid .ensures (a .sheets) place (s .pre .9) (onces (control (a .nodes) (a .sheets) (a .placed) (a .owner .now) phase (a .failed .now) runs (a .order .now) place (a .taken .now)) ready))),
+    let a = s .args in (
+      (λ sheets phase runs place value mark content only listed ready.
+          take-valid (control (a .nodes) sheets (a .placed) (a .owner .now) phase (a .failed .now) runs (a .order .now) place (a .taken .now)) ready (a .claim .now) (a .standing .now) (a .n) (c .before .entry .result) (omega (arith, s .pre .1, c .before .before .before .before .before .before .before .before .before .if1 .left)) (s .pre .6) (c .before .before .before .before .before .before .before .if2 .left)
+          (here sheets (a .owner .now) (a .claim .now) (a .n) (getD (a .order .now) (getD (a .taken .now) (a .n) 0) 0) (c .before .entry .result) (c .before .before .claims-here .result) (s .pre .3 _ (c .before .before .before .before .before .before .before .if2 .left)) only (c .before .entry .ensures) (c .before .before .claims-here .ensures sheets listed)) value (a .seen .now) mark content (a .wct .now)
+          (c .before .before .before .before .before .before .before .before .before .if1 .left) (sym (c .if3 .left) ∙ c .before .before .before .finds-invalid .ensures sheets place listed (onces (control (a .nodes) sheets (a .placed) (a .owner .now) phase (a .failed .now) runs (a .order .now) place (a .taken .now)) ready))),
       ((s .pre .4, rw length-set (s .pre .5), rw length-set (s .pre .6)), (λ place once h. behind-taken (s .pre .7) (λ u. getD place u 0) (a .placed) (a .n) (c .before .entry .result) once (s .pre .3) h (c .before .before .before .before .before .before .before .if2 .left) (rw (s .pre .5) (omega (arith, s .pre .1, c .before .before .before .before .before .before .before .before .before .if1 .left))))),
     )
 

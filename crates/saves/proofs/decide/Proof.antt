@@ -12,7 +12,7 @@ use Rattle.saves.proofs.decide.Statement.{statement}
 use Rattle.saves.proofs.decide.Tie as tie
 
 returns : tie.Need-returns
-returns c = ((λ nodes placed value seen content wct. refused (λ tally. simp (le-ltb _ _ (c .if1 .taken)))), search needs)
+returns c = ((λ nodes sheets placed value seen content wct listed. refused (λ tally. simp (le-ltb _ _ (c .if1 .taken)))), search needs)
 
 element-copy-out-p : tie.Need-element-copy-out-p
 element-copy-out-p c = search needs
@@ -21,16 +21,16 @@ returns-2 : tie.Need-returns-2
 returns-2 c =
     let s = c .before .before .before in
     let a = s .args in
-    ((λ nodes placed value seen content wct. decide-5 (control nodes (a .sheets) placed (a .owner .now) (a .phase .now) (a .failed .now) (a .runs .now) (a .order .now) (a .place .now) (a .taken .now)) value seen (a .mark .now) (a .claim .now) (a .standing .now) content wct (a .t) (c .before .before .if1 .left) (c .if2 .taken)), search needs)
+    ((λ nodes sheets placed value seen content wct listed. decide-5 (control nodes sheets placed (a .owner .now) (a .phase .now) (a .failed .now) (a .runs .now) (a .order .now) (a .place .now) (a .taken .now)) value seen (a .mark .now) (a .claim .now) (a .standing .now) content wct (a .t) (c .before .before .if1 .left) (c .if2 .taken)), search needs)
 
 decidable-requires : tie.Need-decidable-requires
-decidable-requires c κs = (c .before .before .before .pre .0, c .before .before .before .pre .1, c .before .before .if1 .left, c .before .before .before .pre .6)
+decidable-requires c κs = (c .before .before .before .pre .0, c .before .before .before .pre .1, c .before .before .if1 .left, c .before .before .before .pre .6, c .before .before .before .pre .7)
 
 returns-3 : tie.Need-returns-3
 returns-3 c =
     let s = c .before .before .before .before .before in
     let a = s .args in
-    ((λ nodes placed value seen content wct. decide-10 (control nodes (a .sheets) placed (a .owner .now) (a .phase .now) (a .failed .now) (a .runs .now) (a .order .now) (a .place .now) (a .taken .now)) value seen (a .mark .now) (a .claim .now) (a .standing .now) content wct (a .t) (c .before .before .before .before .if1 .left) (c .before .before .if2 .left) (sym (c .before .decidable .ensures) ∙ not-true _ (c .if3 .taken))), search needs)
+    ((λ nodes sheets placed value seen content wct listed. decide-10 (control nodes sheets placed (a .owner .now) (a .phase .now) (a .failed .now) (a .runs .now) (a .order .now) (a .place .now) (a .taken .now)) value seen (a .mark .now) (a .claim .now) (a .standing .now) content wct (a .t) (c .before .before .before .before .if1 .left) (c .before .before .if2 .left) (sym (c .before .decidable .ensures sheets listed) ∙ not-true _ (c .if3 .taken))), search needs)
 
 element-copy-out-f : tie.Need-element-copy-out-f
 element-copy-out-f c = search needs
@@ -42,7 +42,7 @@ returns-4 : tie.Need-returns-4
 returns-4 c =
     let s = c .before .before .before .before .before .before .before in
     let a = s .args in (
-      (λ nodes placed value seen content wct. decide-commits (control nodes (a .sheets) placed (a .owner .now) (a .phase .now) (a .failed .now) (a .runs .now) (a .order .now) (a .place .now) (a .taken .now)) value seen (a .mark .now) (a .claim .now) (a .standing .now) content wct (a .t) (c .before .before .before .before .before .before .if1 .left) (c .before .before .before .before .if2 .left) (s .pre .3) (sym (c .before .before .before .decidable .ensures) ∙ not-false _ (c .before .before .if3 .left)) (c .if4 .taken)),
+      (λ nodes sheets placed value seen content wct listed. decide-commits (control nodes sheets placed (a .owner .now) (a .phase .now) (a .failed .now) (a .runs .now) (a .order .now) (a .place .now) (a .taken .now)) value seen (a .mark .now) (a .claim .now) (a .standing .now) content wct (a .t) (c .before .before .before .before .before .before .if1 .left) (c .before .before .before .before .if2 .left) (s .pre .3) (sym (c .before .before .before .decidable .ensures sheets listed) ∙ not-false _ (c .before .before .if3 .left)) (c .if4 .taken)),
       (rw length-set (s .pre .3), s .pre .4, s .pre .5),
     )
 
@@ -65,8 +65,8 @@ returns-5 : tie.Need-returns-5
 returns-5 c =
     let s = c .before .before .before .before .before .before .before .before .before .before in
     let a = s .args in (
-      (λ nodes placed value seen content wct.
-          rw (c .before .clear-row .ensures) (decide-second (control nodes (a .sheets) placed (a .owner .now) (a .phase .now) (a .failed .now) (a .runs .now) (a .order .now) (a .place .now) (a .taken .now)) value seen (a .mark .now) (a .claim .now) (a .standing .now) content wct (a .t) (c .before .before .before .before .before .before .before .before .before .if1 .left) (c .before .before .before .before .before .before .before .if2 .left) (s .pre .3) (sym (c .before .before .before .before .before .before .decidable .ensures) ∙ not-false _ (c .before .before .before .before .before .if3 .left)) (c .before .before .before .if4 .left) (s .pre .4) (s .pre .5))),
+      (λ nodes sheets placed value seen content wct listed.
+          rw (c .before .clear-row .ensures) (decide-second (control nodes sheets placed (a .owner .now) (a .phase .now) (a .failed .now) (a .runs .now) (a .order .now) (a .place .now) (a .taken .now)) value seen (a .mark .now) (a .claim .now) (a .standing .now) content wct (a .t) (c .before .before .before .before .before .before .before .before .before .if1 .left) (c .before .before .before .before .before .before .before .if2 .left) (s .pre .3) (sym (c .before .before .before .before .before .before .decidable .ensures sheets listed) ∙ not-false _ (c .before .before .before .before .before .if3 .left)) (c .before .before .before .if4 .left) (s .pre .4) (s .pre .5))),
       (rw length-set (s .pre .3), rw length-set (s .pre .4), rw (c .before .clear-row .ensures, length-fill) (s .pre .5)),
     )
 
