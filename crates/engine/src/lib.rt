@@ -2,6 +2,7 @@
 ghost use Rattle.wire.specs.Meaning.{command-of};
 ghost use Rattle.state.specs.View.{control, view, no-tally, Steps};
 ghost use Rattle.state.specs.Ready.{Shaped, Sized, Known, Behind};
+ghost use Rattle.state.specs.Listed.{Listed};
 use state::Session;
 use state::Stepped;
 use wire::Command;
@@ -23,14 +24,16 @@ pub fn step(
     seen: &mut [u32; Session::COPIES],
     mark: &mut [u8; Session::COPIES],
     claim: &mut [u8; Session::COPIES],
+    listed: &mut [u8; Session::COPIES],
+    many: &mut [u8; Session::SAVES],
     standing: &mut [u8; Session::STANDING],
     content: &mut [u32; Session::SHEETS],
     wct: &mut [u32; Session::SHEETS],
     c: Command,
 ) -> Stepped
-    requires { ⌜ Shaped (control nodes sheets placed (now owner) (now phase) (now failed) (now runs) (now order) (now place) (now taken)) × Sized (now value) (now seen) (now mark) (now claim) (now standing) (now content) (now wct) × Known (view (control nodes sheets placed (now owner) (now phase) (now failed) (now runs) (now order) (now place) (now taken)) (now value) (now seen) (now mark) (now claim) (now standing) (now content) (now wct) no-tally) × Behind (now order) (now standing) (now taken) (now gone) ⌝ }
+    requires { ⌜ Shaped (control nodes sheets placed (now owner) (now phase) (now failed) (now runs) (now order) (now place) (now taken)) × Sized (now value) (now seen) (now mark) (now claim) (now standing) (now content) (now wct) × Known (view (control nodes sheets placed (now owner) (now phase) (now failed) (now runs) (now order) (now place) (now taken)) (now value) (now seen) (now mark) (now claim) (now standing) (now content) (now wct) no-tally) × Behind (now order) (now standing) (now taken) (now gone) × Listed sheets (now claim) (now listed) (now many) ⌝ }
     ensures { λ r. ⌜ Steps (view (control nodes sheets placed (now (owner .entry)) (now (phase .entry)) (now (failed .entry)) (now (runs .entry)) (now (order .entry)) (now (place .entry)) (now (taken .entry))) (now (value .entry)) (now (seen .entry)) (now (mark .entry)) (now (claim .entry)) (now (standing .entry)) (now (content .entry)) (now (wct .entry))) (command-of c) (view (control nodes sheets (r .placed) (now (owner .entry)) (now (phase .exit)) (now (failed .exit)) (now (runs .exit)) (now (order .exit)) (now (place .exit)) (now (taken .exit))) (now (value .exit)) (now (seen .exit)) (now (mark .exit)) (now (claim .exit)) (now (standing .exit)) (now (content .exit)) (now (wct .exit))) (r .answer) ⌝ }
-    ensures kept { λ r. ⌜ Sized (now (value .exit)) (now (seen .exit)) (now (mark .exit)) (now (claim .exit)) (now (standing .exit)) (now (content .exit)) (now (wct .exit)) × Shaped (control nodes sheets (r .placed) (now (owner .entry)) (now (phase .exit)) (now (failed .exit)) (now (runs .exit)) (now (order .exit)) (now (place .exit)) (now (taken .exit))) × Behind (now (order .exit)) (now (standing .exit)) (now (taken .exit)) (now (gone .exit)) ⌝ }
+    ensures kept { λ r. ⌜ Sized (now (value .exit)) (now (seen .exit)) (now (mark .exit)) (now (claim .exit)) (now (standing .exit)) (now (content .exit)) (now (wct .exit)) × Shaped (control nodes sheets (r .placed) (now (owner .entry)) (now (phase .exit)) (now (failed .exit)) (now (runs .exit)) (now (order .exit)) (now (place .exit)) (now (taken .exit))) × Behind (now (order .exit)) (now (standing .exit)) (now (taken .exit)) (now (gone .exit)) × Listed sheets (now (claim .exit)) (now (listed .exit)) (now (many .exit)) ⌝ }
 {
     match c {
         Command::Begin(t) => {
@@ -70,11 +73,21 @@ pub fn step(
                 placed: placed,
             }
         }
-        Command::Submit(t) => saves::submit(placed, phase, order, place, mark, claim, t),
+        Command::Submit(t) => saves::submit(
+            sheets,
+            placed,
+            phase,
+            order,
+            place,
+            mark,
+            claim,
+            listed,
+            many,
+            t,
+        ),
         Command::Take(n) => {
             let a = nodes::take(
                 nodes,
-                sheets,
                 placed,
                 owner,
                 failed,
@@ -83,6 +96,8 @@ pub fn step(
                 gone,
                 seen,
                 claim,
+                listed,
+                many,
                 standing,
                 wct,
                 n,
@@ -94,7 +109,6 @@ pub fn step(
         }
         Command::Decide(t) => {
             let a = saves::decide(
-                sheets,
                 owner,
                 phase,
                 failed,
@@ -105,6 +119,8 @@ pub fn step(
                 gone,
                 mark,
                 claim,
+                listed,
+                many,
                 standing,
                 t,
             );
@@ -116,7 +132,6 @@ pub fn step(
         Command::Apply(n, t) => {
             let a = nodes::apply(
                 nodes,
-                sheets,
                 owner,
                 phase,
                 order,
@@ -126,6 +141,8 @@ pub fn step(
                 value,
                 mark,
                 claim,
+                listed,
+                many,
                 standing,
                 content,
                 wct,
