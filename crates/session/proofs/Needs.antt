@@ -90,6 +90,7 @@ module _ (b : List ℕ) (o : opens b ≡ true) (x : Arrays) (tally : Tally) (las
         room = k .room;
         runs = k .runs;
         rises = k .rises;
+        claimed = k .claimed;
       }
 
   pub room : Room tally

@@ -32,4 +32,5 @@ module _ (b : List ℕ) (o : opens b ≡ true) (s : State) (r : Reached s) (h : 
     room = λ t l e. room s r t l (follows is-first joined true false refl (s .phase t) e);
     runs = λ t _. omega (arith, runs-two (s .phase t) (s .runs t) (r .inv .linked .runs-right t));
     rises = λ k _. omega (arith, r .figures .wct k);
+    claimed = λ t k _ _ e. r .inv .copies .claim-range t k e;
   }

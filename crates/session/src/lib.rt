@@ -4,6 +4,7 @@ ghost use Rattle.rules.specs.State.{fresh};
 ghost use Rattle.wire.specs.Meaning.{opened, owners-of};
 ghost use Rattle.state.specs.View.{control, header-of, no-tally};
 ghost use Rattle.state.specs.Ready.{Behind};
+ghost use Rattle.state.specs.Listed.{Listed};
 ghost use Rattle.wire.specs.declared.Opened.the-variants.{Header};
 ghost use Rattle.session.specs.Meaning.{refusal-in, reply-to};
 ghost use Rattle.session.specs.Looping.{arrays, shows, Sizes};
@@ -149,11 +150,13 @@ fn walk(
     seen: &mut [u32; Session::COPIES],
     mark: &mut [u8; Session::COPIES],
     claim: &mut [u8; Session::COPIES],
+    listed: &mut [u8; Session::COPIES],
+    many: &mut [u8; Session::SAVES],
     standing: &mut [u8; Session::STANDING],
     content: &mut [u32; Session::SHEETS],
     wct: &mut [u32; Session::SHEETS],
 ) -> Walked
-    requires { ⌜ (Header nodes sheets ≡ opened (now session)) × Sizes (arrays (control nodes sheets 0 (now owner) (now phase) (now failed) (now runs) (now order) (now place) (now taken)) (now value) (now seen) (now mark) (now claim) (now standing) (now content) (now wct)) × (shows (arrays (control nodes sheets 0 (now owner) (now phase) (now failed) (now runs) (now order) (now place) (now taken)) (now value) (now seen) (now mark) (now claim) (now standing) (now content) (now wct)) no-tally ≡ fresh (header-of nodes sheets (owners-of (now session)))) × Behind (now order) (now standing) (now taken) (now gone) ⌝ }
+    requires { ⌜ (Header nodes sheets ≡ opened (now session)) × Sizes (arrays (control nodes sheets 0 (now owner) (now phase) (now failed) (now runs) (now order) (now place) (now taken)) (now value) (now seen) (now mark) (now claim) (now standing) (now content) (now wct)) × (shows (arrays (control nodes sheets 0 (now owner) (now phase) (now failed) (now runs) (now order) (now place) (now taken)) (now value) (now seen) (now mark) (now claim) (now standing) (now content) (now wct)) no-tally ≡ fresh (header-of nodes sheets (owners-of (now session)))) × Behind (now order) (now standing) (now taken) (now gone) × Listed sheets (now claim) (now listed) (now many) ⌝ }
     ensures { λ r. ⌜ Carried (now (session .entry)) (record { control = control nodes sheets (r .placed) (now (owner .entry)) (now (phase .exit)) (now (failed .exit)) (now (runs .exit)) (now (order .exit)) (now (place .exit)) (now (taken .exit)); content = now (content .exit); wct = now (wct .exit); tally = r .tally; last = reply-to (r .last); stop = r .stop }) ⌝ }
 {
     let mut placed: u8 = 0;
@@ -180,6 +183,8 @@ fn walk(
                     seen,
                     mark,
                     claim,
+                    listed,
+                    many,
                     standing,
                     content,
                     wct,
@@ -226,6 +231,8 @@ pub fn run(session: &[u8], nodes: u8, sheets: u8) -> Ended
     let mut seen: [u32; Session::COPIES] = [0; Session::COPIES];
     let mut mark: [u8; Session::COPIES] = [0; Session::COPIES];
     let mut claim: [u8; Session::COPIES] = [0; Session::COPIES];
+    let mut listed: [u8; Session::COPIES] = [0; Session::COPIES];
+    let mut many: [u8; Session::SAVES] = [0; Session::SAVES];
     let mut standing: [u8; Session::STANDING] = [0; Session::STANDING];
     let mut content: [u32; Session::SHEETS] = [0; Session::SHEETS];
     let mut wct: [u32; Session::SHEETS] = [0; Session::SHEETS];
@@ -245,6 +252,8 @@ pub fn run(session: &[u8], nodes: u8, sheets: u8) -> Ended
         &mut seen,
         &mut mark,
         &mut claim,
+        &mut listed,
+        &mut many,
         &mut standing,
         &mut content,
         &mut wct,

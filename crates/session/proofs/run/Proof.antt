@@ -3,6 +3,7 @@ use mathlib.Core.Path.{refl, _∙_}
 use native.Mathlib.Omega.{arith}
 use Rattle.state.proofs.Fresh.{fresh-zeros}
 use Rattle.state.proofs.Behind.{behind-none}
+use Rattle.state.proofs.Listed.{listed-none}
 use borrow.Author.Needs.{needs}
 use Rattle.session.proofs.run.Statement.{statement}
 use Rattle.session.proofs.run.Tie as tie
@@ -12,14 +13,16 @@ owners-requires c κs = search needs
 
 walk-requires : tie.Need-walk-requires
 walk-requires c κs =
-    let a = c .before .before .before .before .before .before .before .before .before .before .before .before .before .before .before .before .before .args in (
-      c .before .before .before .before .before .before .before .before .before .before .before .before .before .before .before .before .before .pre,
+    let s = c .before .before .before .before .before .before .before .before .before .before .before .before .before .before .before .before .before .before .before in
+    let o = c .before .before .before .before .before .before .before .before .before .before .before .before .before .before .before .before .before .owners in (
+      s .pre,
       record {
         shaped = record { owner = search needs; phase = refl; failed = refl; runs = refl; order = refl; place = refl; taken = refl; fits = omega arith };
         sized = record { value = refl; seen = refl; mark = refl; claim = refl; standing = refl; content = refl; wct = refl };
       },
-      fresh-zeros (a .nodes) (a .sheets) (c .before .before .before .before .before .before .before .before .before .before .before .before .before .before .before .owners .result) ∙ rw (c .before .before .before .before .before .before .before .before .before .before .before .before .before .before .before .owners .ensures),
+      fresh-zeros (s .args .nodes) (s .args .sheets) (o .result) ∙ rw (o .ensures),
       behind-none _ _ _,
+      listed-none _,
     )
 
 told-requires : tie.Need-told-requires
