@@ -1,36 +1,48 @@
 // The commands on a save's own copies: READ and WRITE. Each does what its rule says.
 ghost use Prim.Native.Nat.{ℕ, _+_, _*_, _≤_, _<_};
 ghost use mathlib.Core.Path.{_≡_};
-ghost use mathlib.Core.Bool.{_&&_, _||_, not};
+ghost use mathlib.Core.Bool.{_&&_, not};
 ghost use mathlib.Core.List.{List};
 ghost use lib.ListN.{length};
-ghost use lib.Dec.{eqb, leb};
+ghost use lib.Dec.{eqb};
 ghost use Rattle.rules.specs.Bytes.{Read, Write};
 ghost use Rattle.rules.specs.Steps.{at-front, x-on};
-ghost use Rattle.state.specs.View.{set?, claim-in, queue-in, control, view, Steps};
+ghost use Rattle.state.specs.View.{claim-in, queue-in, control, view, Steps};
 ghost use Rattle.state.specs.Ready.{Once, Onces, Queued, Gone, Behind};
 ghost use Rattle.queues.specs.Walk.{Walk};
+ghost use Rattle.copies.specs.Barred.{barred-by};
 use state::Answer;
 use state::Session;
 
-// In the first run any sheet is open to READ, in the second one that is claimed.
-fn readable(p: u8, c: u8) -> bool
-    ensures { λ r. ⌜ r ≡ (eqb p 1 || set? c) ⌝ }
+// What READ or WRITE of sheet k by save t is refused for before its copy is looked at: 4, 5 or 8, or 0 where it is not.
+// In the first run any sheet is open, in the second one whose claim is `least` or more.
+fn barred(
+    sheets: u8,
+    phase: &[u8; Session::SAVES],
+    claim: &[u8; Session::COPIES],
+    t: u8,
+    k: u8,
+    least: u8,
+) -> u8
+    requires { ⌜ sheets ≤ 64 ⌝ }
+    ensures { λ r. ⌜ r ≡ barred-by sheets (now (phase .entry)) (now (claim .entry)) t k least ⌝ }
 {
-    if p == 1 {
-        return true;
+    if 32 <= t || sheets <= k {
+        return 4;
     }
-    c != 0
-}
-
-// In the first run any sheet is open to WRITE, in the second one that is X in the claim.
-fn writable(p: u8, c: u8) -> bool
-    ensures { λ r. ⌜ r ≡ (eqb p 1 || leb 2 c) ⌝ }
-{
+    let ti = t as usize;
+    let p = phase[ti];
     if p == 1 {
-        return true;
+        return 0;
     }
-    2 <= c
+    if p != 3 {
+        return 5;
+    }
+    let c = claim[ti * Session::SHEETS + k as usize];
+    if c < least {
+        return 8;
+    }
+    0
 }
 
 // A save of phase p is in its first run, and finds an X at the front of sheet k's queue.
@@ -75,25 +87,13 @@ pub fn read(
     ensures { λ r. ⌜ ((nodes placed : ℕ) (failed runs place : List ℕ) → Onces (now (order .entry)) place (now (taken .entry)) → Steps (view (control nodes sheets placed (now (owner .entry)) (now (phase .entry)) failed runs (now (order .entry)) place (now (taken .entry))) (now (value .entry)) (now (seen .entry)) (now (mark .entry)) (now (claim .entry)) (now (standing .entry)) (now (content .entry)) (now (wct .entry))) (Read t k) (view (control nodes sheets placed (now (owner .entry)) (now (phase .entry)) failed runs (now (order .entry)) place (now (taken .entry))) (now (value .exit)) (now (seen .exit)) (now (mark .exit)) (now (claim .entry)) (now (standing .entry)) (now (content .entry)) (now (wct .entry))) r) ⌝ }
     ensures kept { λ _. ⌜ (length (now (value .exit)) ≡ 2048) × (length (now (seen .exit)) ≡ 2048) × (length (now (mark .exit)) ≡ 2048) ⌝ }
 {
-    if 32 <= t {
-        return Answer::Refused(4);
-    }
-    if sheets <= k {
-        return Answer::Refused(4);
+    let r = barred(sheets, phase, claim, t, k, 1);
+    if r != 0 {
+        return Answer::Refused(r);
     }
     let ti = t as usize;
     let ki = k as usize;
     let i = ti * Session::SHEETS + ki;
-    let p = phase[ti];
-    let run = state::running(p);
-    if !run {
-        return Answer::Refused(5);
-    }
-    let c = claim[i];
-    let open = readable(p, c);
-    if !open {
-        return Answer::Refused(8);
-    }
     let m = mark[i];
     if m != 0 {
         let v = value[i];
@@ -102,6 +102,7 @@ pub fn read(
     let n = owner[ki] as usize;
     let from = gone[n] as usize;
     let upto = taken[n] as usize;
+    let p = phase[ti];
     let b = blocked(order, standing, claim, n, ki, from, upto, p);
     if b {
         return Answer::Refused(6);
@@ -129,25 +130,11 @@ pub fn write(
     ensures { λ r. ⌜ ((nodes placed : ℕ) (owner failed runs order place taken seen standing content wct : List ℕ) → Steps (view (control nodes sheets placed owner (now (phase .entry)) failed runs order place taken) (now (value .entry)) seen (now (mark .entry)) (now (claim .entry)) standing content wct) (Write t k v) (view (control nodes sheets placed owner (now (phase .entry)) failed runs order place taken) (now (value .exit)) seen (now (mark .exit)) (now (claim .entry)) standing content wct) r) ⌝ }
     ensures kept { λ _. ⌜ (length (now (value .exit)) ≡ 2048) × (length (now (mark .exit)) ≡ 2048) ⌝ }
 {
-    if 32 <= t {
-        return Answer::Refused(4);
+    let r = barred(sheets, phase, claim, t, k, 2);
+    if r != 0 {
+        return Answer::Refused(r);
     }
-    if sheets <= k {
-        return Answer::Refused(4);
-    }
-    let ti = t as usize;
-    let ki = k as usize;
-    let i = ti * Session::SHEETS + ki;
-    let p = phase[ti];
-    let run = state::running(p);
-    if !run {
-        return Answer::Refused(5);
-    }
-    let c = claim[i];
-    let open = writable(p, c);
-    if !open {
-        return Answer::Refused(8);
-    }
+    let i = t as usize * Session::SHEETS + k as usize;
     let m = mark[i];
     if m == 0 {
         return Answer::Refused(7);
