@@ -14,7 +14,7 @@ size_t plain_report(const uint8_t *session, size_t session_len, uint8_t *report,
 
 typedef size_t report_call(const uint8_t *, size_t, uint8_t *, size_t);
 
-enum { MOST_BYTES = 16384, BUFFER = 4096, SAVES = 32, NODES = 4, SHEETS = 16 };
+enum { MOST_BYTES = 16384, BUFFER = 4096, SAVES = 32, NODES = 4, SHEETS = 16, MOST_NODES = 8, MOST_SHEETS = 64 };
 
 struct session {
     const char *name;
@@ -63,15 +63,15 @@ static void write_sheet(struct session *s, int t, int k, uint32_t v)
 
 static void on_save(struct session *s, int byte, int t) { COMMAND(s, (uint8_t)byte, (uint8_t)t); }
 
-static void all_nodes_take(struct session *s)
+static void nodes_take(struct session *s, int nodes)
 {
-    for (int n = 0; n < NODES; n++)
+    for (int n = 0; n < nodes; n++)
         COMMAND(s, 5, (uint8_t)n);
 }
 
-static void all_nodes_apply(struct session *s, int t)
+static void nodes_apply(struct session *s, int nodes, int t)
 {
-    for (int n = 0; n < NODES; n++)
+    for (int n = 0; n < nodes; n++)
         COMMAND(s, 7, (uint8_t)n, (uint8_t)t);
 }
 
@@ -86,15 +86,15 @@ static void read_and_write_all(struct session *s, int t, int more)
         read_sheet(s, t, k % SHEETS);
 }
 
-/* One save reads and writes its own copies until the session is full to the byte. */
-static void make_own(struct session *s)
+/* One save reads and writes its own copies until the session has so many bytes. */
+static void own(struct session *s, size_t bytes)
 {
     header(s, "own reads and writes", 1, SHEETS);
     on_save(s, 1, 0);
     for (int k = 0; k < SHEETS; k++)
         read_sheet(s, 0, k);
-    for (int k = 0; s->length < MOST_BYTES; k = (k + 1) % SHEETS) {
-        size_t left = MOST_BYTES - s->length;
+    for (int k = 0; s->length < bytes; k = (k + 1) % SHEETS) {
+        size_t left = bytes - s->length;
         /* The last bytes must be a sum of threes and sevens. */
         if (left > 40 ? s->commands % 2 : left % 3 == 0)
             read_sheet(s, 0, k);
@@ -103,6 +103,8 @@ static void make_own(struct session *s)
     }
 }
 
+static void make_own(struct session *s) { own(s, MOST_BYTES); }
+
 static void serial(struct session *s, const char *name, int more)
 {
     header(s, name, NODES, SHEETS);
@@ -110,9 +112,9 @@ static void serial(struct session *s, const char *name, int more)
         on_save(s, 1, t);
         read_and_write_all(s, t, more);
         on_save(s, 4, t);
-        all_nodes_take(s);
+        nodes_take(s, NODES);
         on_save(s, 6, t);
-        all_nodes_apply(s, t);
+        nodes_apply(s, NODES, t);
     }
 }
 
@@ -127,14 +129,14 @@ static void conflict(struct session *s, const char *name, int more)
     for (int t = 0; t < SAVES; t++)
         on_save(s, 4, t);
     for (int t = 0; t < SAVES; t++)
-        all_nodes_take(s);
+        nodes_take(s, NODES);
     for (int t = 0; t < SAVES; t++) {
         on_save(s, 6, t);
         if (t > 0) {
             read_and_write_all(s, t, 0);
             on_save(s, 4, t);
         }
-        all_nodes_apply(s, t);
+        nodes_apply(s, NODES, t);
     }
 }
 
@@ -146,6 +148,38 @@ static void make_serial(struct session *s) { serial(s, "serial saves", 0); }
 static void make_conflict_long(struct session *s) { conflict(s, "all in conflict, long", 56); }
 
 static void make_conflict(struct session *s) { conflict(s, "all in conflict", 0); }
+
+/* Each save works on one sheet of 64 on 8 nodes: most steps are the nodes' own. */
+static void make_one_sheet(struct session *s)
+{
+    header(s, "one sheet each", MOST_NODES, MOST_SHEETS);
+    for (int t = 0; t < SAVES; t++) {
+        int k = 2 * t;
+        on_save(s, 1, t);
+        read_sheet(s, t, k);
+        write_sheet(s, t, k, (uint32_t)t);
+        on_save(s, 4, t);
+        nodes_take(s, MOST_NODES);
+        on_save(s, 6, t);
+        COMMAND(s, 7, (uint8_t)(k % MOST_NODES), (uint8_t)t);
+    }
+}
+
+/* Each save reads all 64 sheets on 8 nodes, and writes one. */
+static void make_all_sheets(struct session *s)
+{
+    header(s, "all sheets each", MOST_NODES, MOST_SHEETS);
+    for (int t = 0; t < SAVES; t++) {
+        on_save(s, 1, t);
+        for (int k = 0; k < MOST_SHEETS; k++)
+            read_sheet(s, t, k);
+        write_sheet(s, t, 2 * t, (uint32_t)t);
+        on_save(s, 4, t);
+        nodes_take(s, MOST_NODES);
+        on_save(s, 6, t);
+        nodes_apply(s, MOST_NODES, t);
+    }
+}
 
 static void make_w(struct session *s)
 {
@@ -201,31 +235,67 @@ static void check(const struct session *s)
     }
 }
 
-int main(int count, char **words)
+/* The best of so many turns of each. */
+static void measure(const struct session *s, int turns, double *engine, double *plain)
+{
+    check(s);
+    /* A turn of about half a millisecond is long enough for the clock. */
+    int calls = 1 + (int)(5e5 / (turn(plain_report, s, 20) + 1));
+    *engine = *plain = 1e18;
+    for (int j = 0; j < turns; j++) {
+        double time = turn(cusphewa_report, s, calls);
+        if (time < *engine)
+            *engine = time;
+        time = turn(plain_report, s, calls);
+        if (time < *plain)
+            *plain = time;
+    }
+}
+
+static void sessions(int turns)
 {
     static struct session s;
-    void (*const make[])(struct session *) = { make_own, make_serial_long, make_conflict_long, make_serial,
-                                                make_conflict, make_w, make_empty };
-    int turns = count > 1 ? atoi(words[1]) : 300;
+    static void (*const make[])(struct session *) = {
+        make_own,       make_serial_long, make_conflict_long, make_serial, make_conflict,
+        make_one_sheet, make_all_sheets,  make_w,             make_empty,
+    };
     printf("%-21s %6s %6s | %10s %8s | %10s %8s | %6s\n", "session", "bytes", "cmds", "engine ns",
            "ns/cmd", "plain ns", "ns/cmd", "ratio");
     for (size_t i = 0; i < sizeof make / sizeof *make; i++) {
+        double engine, plain;
         make[i](&s);
-        check(&s);
-        /* A turn of about half a millisecond is long enough for the clock. */
-        int calls = 1 + (int)(5e5 / (turn(plain_report, &s, 20) + 1));
-        double engine = 1e18, plain = 1e18;
-        for (int j = 0; j < turns; j++) {
-            double time = turn(cusphewa_report, &s, calls);
-            if (time < engine)
-                engine = time;
-            time = turn(plain_report, &s, calls);
-            if (time < plain)
-                plain = time;
-        }
+        measure(&s, turns, &engine, &plain);
         double commands = s.commands ? (double)s.commands : 1;
         printf("%-21s %6zu %6zu | %10.1f %8.2f | %10.1f %8.2f | %6.2f\n", s.name, s.length, s.commands,
                engine, engine / commands, plain, plain / commands, engine / plain);
     }
+}
+
+/* What each further command costs, from one length to the next. */
+static void lengths(int turns)
+{
+    static struct session s;
+    static const size_t bytes[] = { 128, 1024, 2048, 4096, 8192, 16384 };
+    double engine_before = 0, plain_before = 0, before = 0;
+    printf("\n%-21s %6s %6s | %10s %8s | %10s %8s |\n", "own reads and writes", "bytes", "cmds", "engine ns",
+           "ns/more", "plain ns", "ns/more");
+    for (size_t i = 0; i < sizeof bytes / sizeof *bytes; i++) {
+        double engine, plain;
+        own(&s, bytes[i]);
+        measure(&s, turns, &engine, &plain);
+        double more = (double)s.commands - before;
+        printf("%-21s %6zu %6zu | %10.1f %8.2f | %10.1f %8.2f |\n", "", s.length, s.commands, engine,
+               (engine - engine_before) / more, plain, (plain - plain_before) / more);
+        engine_before = engine;
+        plain_before = plain;
+        before = (double)s.commands;
+    }
+}
+
+int main(int count, char **words)
+{
+    int turns = count > 1 ? atoi(words[1]) : 300;
+    sessions(turns);
+    lengths(turns);
     return 0;
 }

@@ -4,7 +4,8 @@ ghost use mathlib.Core.Bool.{_||_};
 ghost use lib.Dec.{eqb};
 ghost use Rattle.rules.specs.State.{fresh};
 ghost use Rattle.state.specs.View.{shown, header-of, no-tally};
-ghost use Rattle.state.specs.Ready.{Shaped, Sized};
+ghost use Rattle.state.specs.Ready.{Shaped, Sized, Behind};
+ghost use Rattle.state.specs.Listed.{Listed};
 
 // Phases: 0 unused, 1 first run, 2 submitted, 3 second run, 4 committed, 5 dropped.
 pub struct Control {
@@ -24,7 +25,9 @@ pub struct Control {
 
 // Row t of `value`, `seen`, `mark` and `claim` is save t's, with a column for each sheet.
 // Marks: 0 no copy, 1 copied, 2 written. Claims: 0 none, 1 S, 2 X.
-// Row n of `standing` is node n's: 1 from the TAKE of a save to its APPLY.
+// Row n of `standing` is node n's: 1 from the TAKE of a save with a sheet there to its APPLY.
+// The last three are hints, and no part of what the arrays show: how many places at the front of the order have no entry at each node any
+// more; the sheets that each save claims, a row for each, and how many they are.
 pub struct Session {
     pub control: Control,
     pub value: [u32; Session::COPIES],
@@ -34,6 +37,9 @@ pub struct Session {
     pub standing: [u8; Session::STANDING],
     pub content: [u32; Session::SHEETS],
     pub wct: [u32; Session::SHEETS],
+    pub gone: [u8; Session::NODES],
+    pub listed: [u8; Session::COPIES],
+    pub many: [u8; Session::SAVES],
 }
 
 impl Session {
@@ -50,6 +56,7 @@ impl Session {
     pub fn fresh(nodes: u8, sheets: u8, owner: [u8; Session::SHEETS]) -> Session
         ensures { λ r. ⌜ shown r no-tally ≡ fresh (header-of nodes sheets owner) ⌝ }
         ensures kept { λ r. ⌜ Shaped (r .control) × Sized (r .value) (r .seen) (r .mark) (r .claim) (r .standing) (r .content) (r .wct) ⌝ }
+        ensures hints { λ r. ⌜ Behind (r .control .order) (r .standing) (r .control .taken) (r .gone) × Listed (r .control .sheets) (r .claim) (r .listed) (r .many) ⌝ }
     {
         Session {
             control: Control {
@@ -71,6 +78,9 @@ impl Session {
             standing: [0; Session::STANDING],
             content: [0; Session::SHEETS],
             wct: [0; Session::SHEETS],
+            gone: [0; Session::NODES],
+            listed: [0; Session::COPIES],
+            many: [0; Session::SAVES],
         }
     }
 }

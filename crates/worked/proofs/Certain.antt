@@ -1,38 +1,27 @@
 -- The worked session's states: antt computes at each what a step may rely on, and a step leads from one to the next.
 use Prim.Native.Nat.{ℕ, zero, suc, _+_, _<_}
 use mathlib.Core.Path.{_≡_, refl, sym, ap, subst, _∙_}
-use mathlib.Core.Bool.{Bool, true, false, not, _&&_}
+use mathlib.Core.Bool.{Bool, true, false, not, _||_, true≢false}
 use native.Mathlib.Omega.{arith}
-use native.Mathlib.Nat.{not-suc-le-zero}
 use native.Mathlib.Numerals.{add-one}
 use lib.ListN.{length}
 use lib.Dec.{eqb, leb, ltb}
 use borrow.Author.Tests.{ltb-true, leb-true, eqb-true, not-true}
 use Rattle.rules.specs.Table.{upd, upd2, row, all, any}
 use Rattle.rules.specs.Bytes.{Command}
-use Rattle.rules.specs.State.{Tally, State, is-first, fresh}
+use Rattle.rules.specs.State.{Tally, State, is-first, claims, fresh}
 use Rattle.rules.specs.Steps.{x-on, step}
+use Rattle.rules.proofs.Table.{all-at}
 use Rattle.state.specs.declared.Answer.{Answer}
 use Rattle.state.specs.Places.{at}
 use Rattle.state.specs.View.{advanced, Steps}
 use Rattle.state.specs.Ready.{Known}
-use Rattle.state.proofs.Tables.{same?}
 use Rattle.state.proofs.Steps.{state-stepped}
 use Rattle.worked.specs.Worked.{command-at, state-after}
 
-left : (a b : Bool) → a && b ≡ true → a ≡ true
-left true b e = refl
-left false b e = e
-
-right : (a b : Bool) → a && b ≡ true → b ≡ true
-right true b e = e
-right false true e = refl
-right false false e = e
-
-all-at : (n : ℕ) (f : ℕ → Bool) → all n f ≡ true → (i : ℕ) → i < n → f i ≡ true
-unfolding all
-all-at zero f e i h = absurd (not-suc-le-zero h)
-all-at (suc n) f e i h = same? i n (λ q. rw q (left (f n) (all n f) e)) (λ q. all-at n f (right (f n) (all n f) e) i (omega arith))
+implied : (a b : Bool) → not a || b ≡ true → a ≡ true → b ≡ true
+implied true b e f = e
+implied false b e f = absurd (true≢false (sym f))
 
 -- a test that antt computes at every state
 once-each : (f : State → Bool) → all 17 (λ n. f (state-after n)) ≡ true → (n : ℕ) → n < 17 → f (state-after n) ≡ true
@@ -60,6 +49,7 @@ module _ (n : ℕ) (h : n < 17) where
     room = λ t l f. ltb-true (length (s .order)) 32 (once-each (λ s. ltb (length (s .order)) 32) refl n h);
     runs = λ t l. ltb-true (s .runs t) 255 (each (λ s. 32) (λ s t. ltb (s .runs t) 255) refl n h t l);
     rises = λ k l. ltb-true (s .sheet k .wct) 4294967295 (each (λ s. 64) (λ s k. ltb (s .sheet k .wct) 4294967295) refl n h k l);
+    claimed = λ t k t32 k64 e. ltb-true k (s .header .sheets) (implied (claims (s .claim t k)) (ltb k (s .header .sheets)) (all-at 64 (λ k. not (claims (s .claim t k)) || ltb k (s .header .sheets)) (each (λ s. 32) (λ s t. all 64 (λ k. not (claims (s .claim t k)) || ltb k (s .header .sheets))) refl n h t t32) k k64) e);
   }
 
 -- one step on

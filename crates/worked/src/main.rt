@@ -88,11 +88,13 @@ fn run() {
     let mut order = d.order;
     let mut place = d.place;
     let mut taken = d.taken;
-    let mut gone = [0u8; 8];
+    let mut gone = s.gone;
     let mut value = s.value;
     let mut seen = s.seen;
     let mut mark = s.mark;
     let mut claim = s.claim;
+    let mut listed = s.listed;
+    let mut many = s.many;
     let mut standing = s.standing;
     let mut content = s.content;
     let mut wct = s.wct;
@@ -115,6 +117,8 @@ fn run() {
             &mut seen,
             &mut mark,
             &mut claim,
+            &mut listed,
+            &mut many,
             &mut standing,
             &mut content,
             &mut wct,

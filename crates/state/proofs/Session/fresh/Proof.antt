@@ -2,6 +2,8 @@
 use mathlib.Core.Path.{refl}
 use native.Mathlib.Omega.{arith}
 use Rattle.state.proofs.Fresh.{fresh-zeros}
+use Rattle.state.proofs.Behind.{behind-none}
+use Rattle.state.proofs.Listed.{listed-none}
 use borrow.Author.Needs.{needs}
 use Rattle.state.proofs.Session.fresh.Statement.{statement}
 use Rattle.state.proofs.Session.fresh.Tie as tie
@@ -10,8 +12,11 @@ returns : tie.Need-returns
 returns c = (
   fresh-zeros (c .args .nodes) (c .args .sheets) (c .args .owner),
   (
-    record { owner = search needs; phase = refl; failed = refl; runs = refl; order = refl; place = refl; taken = refl; fits = omega arith },
-    record { value = refl; seen = refl; mark = refl; claim = refl; standing = refl; content = refl; wct = refl },
+    (
+      record { owner = search needs; phase = refl; failed = refl; runs = refl; order = refl; place = refl; taken = refl; fits = omega arith },
+      record { value = refl; seen = refl; mark = refl; claim = refl; standing = refl; content = refl; wct = refl },
+    ),
+    (behind-none _ _ _, listed-none _),
   ),
 )
 
