@@ -15,13 +15,6 @@ use state::Answer;
 use state::Session;
 use state::Verdict;
 
-// The byte in `standing` of a save that has an entry at the node, if h.
-fn entry(h: bool) -> u8
-    ensures { λ r. ⌜ r ≡ cond h 1 0 ⌝ }
-{
-    if h { 1 } else { 0 }
-}
-
 // Node n takes the next save of the order.
 pub fn take(
     nodes: u8,
@@ -55,6 +48,12 @@ pub fn take(
     let pi = p as usize;
     let t = order[pi];
     let ti = t as usize;
+    let h = sheets::claims_here(owner, claim, listed, many, n, t);
+    if !h {
+        // With no sheet here, only the node's place in the order moves.
+        taken[ni] = p + 1;
+        return Answer::Took(t, Verdict::Valid);
+    }
     let b = sheets::finds_invalid(
         owner,
         order,
@@ -69,8 +68,7 @@ pub fn take(
         n,
         t,
     );
-    let e = entry(sheets::claims_here(owner, claim, listed, many, n, t));
-    standing[ni * Session::SAVES + ti] = e;
+    standing[ni * Session::SAVES + ti] = 1;
     taken[ni] = p + 1;
     if b {
         failed[ti] = 1;

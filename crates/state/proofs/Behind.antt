@@ -32,14 +32,22 @@ module _ {order standing taken gone : List ℕ} (b : Behind order standing taken
     none = λ n q l. rw (getD-set-other order placed q t 0 (λ e. let x = h n in let y = b .within n in omega arith)) (b .none n q l);
   }
 
-  -- TAKE: the save that gets entries stands at a place past those
-  pub behind-taken : (place : ℕ → ℕ) (placed n v : ℕ) → Once order place placed → Small order placed → ((m : ℕ) → getD taken m 0 ≤ placed) → getD taken n 0 < placed → n < length taken
-      → Behind order (set standing (n * 32 + at order (getD taken n 0)) v) (set taken n (getD taken n 0 + 1)) gone
-  behind-taken place placed n v once small h l n8 = record {
+  -- TAKE: the node has taken one place more
+  pub behind-moved : (n : ℕ) → n < length taken → Behind order standing (set taken n (getD taken n 0 + 1)) gone
+  behind-moved n n8 = record {
     size = b .size;
     within = λ m. same? m n
         (λ e. let y = b .within n in rw (e, getD-set-same taken n (getD taken n 0 + 1) 0 n8) (omega arith))
         (λ z. rw (getD-set-other taken n m (getD taken n 0 + 1) 0 z) (b .within m));
+    none = b .none;
+  }
+
+  -- and the save that gets entries stands there, past those
+  pub behind-taken : (place : ℕ → ℕ) (placed n v : ℕ) → Once order place placed → Small order placed → ((m : ℕ) → getD taken m 0 ≤ placed) → getD taken n 0 < placed → n < length taken
+      → Behind order (set standing (n * 32 + at order (getD taken n 0)) v) (set taken n (getD taken n 0 + 1)) gone
+  behind-taken place placed n v once small h l n8 = record {
+    size = b .size;
+    within = behind-moved n n8 .within;
     none = λ m q k.
         let x = h m in
         let y = b .within m in
