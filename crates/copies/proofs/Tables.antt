@@ -14,7 +14,8 @@ use Rattle.rules.specs.Steps.{at-front, x-on, Checked, pass, refuse, check, rea
 use Rattle.state.specs.declared.Control.{Control}
 use Rattle.state.specs.declared.Answer.the-variants.{Content, Accepted, Refused}
 use Rattle.state.specs.View.{as-phase, as-mark, as-claim, set?, flat, claim-in, queue-in, view, Steps}
-use Rattle.state.proofs.Tables.{bool, upd2-by}
+use Rattle.rules.proofs.Table.{bool}
+use Rattle.state.proofs.Tables.{upd2-by}
 use Rattle.state.proofs.Codes.{first-code, second-code, has-copy-code}
 use Rattle.state.proofs.Stores.{flat-in, flat-same, flat-other}
 use Rattle.state.proofs.Steps.{refused, accepted, same-state}

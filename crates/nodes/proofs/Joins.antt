@@ -15,15 +15,15 @@ use Rattle.rules.specs.Table.{upd, any}
 use Rattle.rules.specs.State.{claims}
 use Rattle.rules.specs.Steps as rules
 use Rattle.rules.specs.Steps.{fails-at, finds-invalid}
-use Rattle.rules.proofs.Table.{below?, and-i, clash, any-intro}
+use Rattle.rules.proofs.Table.{bool, same?, below?, and-i, clash, any-intro}
 use Rattle.state.specs.declared.Control.{Control}
 use Rattle.state.specs.declared.Verdict.{Verdict}
 use Rattle.state.specs.declared.Verdict.the-variants.{Valid, Invalid}
 use Rattle.state.specs.declared.Answer.the-variants.{Took, Refused}
-use Rattle.state.specs.Places.{at, by}
+use Rattle.rules.proofs.Places.{at, by}
 use Rattle.state.specs.View.{set?, claim-in, entered, queue-in, view, no-tally, verdict-of, Steps}
 use Rattle.state.specs.Ready.{Ready, Claimed}
-use Rattle.state.proofs.Tables.{bool, same?, upd-by, any-none}
+use Rattle.state.proofs.Tables.{upd-by, any-fails}
 use Rattle.state.proofs.Stores.{view-set, flat-past}
 use Rattle.state.proofs.Listed.{unclaimed}
 use Rattle.state.proofs.Places.{entries-on, entries-cong, order-length}
@@ -144,7 +144,7 @@ module _ (d : Control) (ready : Ready d) where
     take-none only none =
         let empty = here (d .sheets) (d .owner) claim n next (ready .small (getD (d .taken) n 0) h) only none in
         take-steps claim standing standing n n8 h (λ j z. refl) (λ k o e. absurd (empty k o e)) value seen mark content wct (d .failed) false Valid ln
-        (sym (any-none (d .sheets) (λ k. eqb (getD (d .owner) k 0) n && fails-at (view d [] seen [] claim standing [] wct no-tally) next k)
+        (sym (any-fails (d .sheets) (λ k. eqb (getD (d .owner) k 0) n && fails-at (view d [] seen [] claim standing [] wct no-tally) next k)
         (λ k l. same? (getD (d .owner) k 0) n
         (λ o. bool (claims (claim-in claim next k)) (λ e. absurd (empty k o e)) (λ e. rw e (and-false (eqb (getD (d .owner) k 0) n))))
         (λ z. rw (ne-eqb (getD (d .owner) k 0) n z)))))

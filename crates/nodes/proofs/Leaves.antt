@@ -16,11 +16,11 @@ use Rattle.rules.specs.State.{claims}
 use Rattle.rules.specs.Steps.{without, receives, has-entry}
 use Rattle.state.specs.declared.Control.{Control}
 use Rattle.state.specs.declared.Answer.the-variants.{Accepted, Refused}
-use Rattle.state.specs.Places.{at}
+use Rattle.rules.proofs.Places.{at}
 use Rattle.state.specs.View.{set?, flat, claim-in, entered, queue-in, view, no-tally, Steps}
 use Rattle.state.specs.Fill.{fill}
 use Rattle.state.specs.Ready.{Small}
-use Rattle.state.proofs.Tables.{bool, same?}
+use Rattle.rules.proofs.Table.{bool, same?}
 use Rattle.state.proofs.Codes.{committed-code, over-code, written-code}
 use Rattle.state.proofs.Stores.{flat-in, flat-past, fill-in, fill-out}
 use Rattle.state.proofs.Places.{entries-cong, entries-without}

@@ -11,10 +11,10 @@ use lib.ListN.{getD}
 use lib.Dec.{ltb, leb, eqb}
 use borrow.Author.Tests.{lt-ltb, le-ltb, ltb-true, ltb-false, eq-eqb, ne-eqb, le-leb}
 use Rattle.rules.specs.Steps.{mem, holds, before, empty, at-front, x-on, granted-as}
-use Rattle.state.specs.Places.{at, by, entries}
+use Rattle.rules.proofs.Places.{at, by, entries}
 use Rattle.state.specs.View.{set?, as-claim, flat, claim-in, entered, queue-in}
 use Rattle.state.specs.Ready.{Once}
-use Rattle.state.proofs.Tables.{bool, same?}
+use Rattle.rules.proofs.Table.{bool, same?}
 use Rattle.state.proofs.Codes.{claims-code, is-x-code}
 use Rattle.state.proofs.Stores.{flat-in}
 use Rattle.queues.specs.Walk.{halts, stop, least-of, Walk}

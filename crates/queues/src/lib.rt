@@ -4,7 +4,7 @@
 ghost use Prim.Native.Nat.{ℕ, _≤_, _<_};
 ghost use mathlib.Core.Path.{_≡_};
 ghost use Rattle.rules.specs.Steps.{holds, at-front, before, x-on, granted-as};
-ghost use Rattle.state.specs.Places.{at};
+ghost use Rattle.rules.proofs.Places.{at};
 ghost use Rattle.state.specs.View.{claim-in, queue-in};
 ghost use Rattle.state.specs.Ready.{Once, Gone};
 ghost use Rattle.queues.specs.Walk.{halt-of, halts, stop, least-of, Walk};

@@ -48,7 +48,7 @@ before-end : (t : ℕ) (l : List ℕ) → mem t l ≡ false → before t (l ++ t
 before-end t [] e = rw (eq-eqb t t refl)
 before-end t (x ∷ l) e = bool (eqb x t) (λ q. absurd (true≢false (rw q at e))) (λ q. rw (q, before-end t l (rw q at e)))
 
-without-snoc : (t : ℕ) (l : List ℕ) (u : ℕ) → without t (l ++ u ∷ []) ≡ cond (eqb u t) (without t l) (without t l ++ u ∷ [])
+pub without-snoc : (t : ℕ) (l : List ℕ) (u : ℕ) → without t (l ++ u ∷ []) ≡ cond (eqb u t) (without t l) (without t l ++ u ∷ [])
 without-snoc t [] u = refl
 without-snoc t (x ∷ l) u = bool (eqb x t) (λ q. rw (q, without-snoc t l u)) (λ q. rw (q, without-snoc t l u) (bool (eqb u t) (λ r. rw r) (λ r. rw r)))
 

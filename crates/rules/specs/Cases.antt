@@ -81,7 +81,7 @@ starred =
     ∷ case (W-43 ++ "04 01  07 00 01") (answers accepted) "" "P 0 1 C\nP 1 2 C\nO 0 7 1\nO 1 0 0\nT 15 1 1\n"
     ∷ []
 
--- the examples of the table of refused steps, 1 to 11
+-- the examples of the table of refused steps, 1 to 11; those of 4 and 10 are starred cases, above
 abbrev pub refusals : List Case
 refusals =
     case "00 01 00" (refusal 0 1) "" "R 0 1\n"

@@ -12,7 +12,7 @@ use lib.Seq.{getD-set-same, getD-set-other}
 use borrow.Author.Tests.{eq-eqb, ne-eqb}
 use Rattle.state.specs.Fill.{fill}
 use Rattle.state.specs.Listed.{Lists, Listed}
-use Rattle.state.proofs.Tables.{same?}
+use Rattle.rules.proofs.Table.{same?}
 use Rattle.state.proofs.Listed.{lists-past, lists-on, listed-row}
 
 -- row t has the marked ones of k sheets, c of them, and the others are as they were

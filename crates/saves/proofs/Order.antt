@@ -13,7 +13,7 @@ use Rattle.rules.specs.Table.{row}
 use Rattle.rules.specs.Steps.{claim-of}
 use Rattle.state.specs.declared.Control.{Control}
 use Rattle.state.specs.declared.Answer.the-variants.{Accepted}
-use Rattle.state.specs.Places.{at}
+use Rattle.rules.proofs.Places.{at}
 use Rattle.state.specs.View.{as-phase, as-mark, flat, claim-in, entered, queue-in, view, Steps}
 use Rattle.state.specs.Fill.{fill}
 use Rattle.state.specs.Ready.{Ready}

@@ -9,10 +9,11 @@ use borrow.Author.Tests.{ne-eqb}
 use Rattle.rules.specs.Table.{any}
 use Rattle.rules.specs.State.{claims}
 use Rattle.rules.specs.Steps.{mem, has-entry}
-use Rattle.state.specs.Places.{at}
+use Rattle.rules.proofs.Places.{at}
 use Rattle.state.specs.View.{set?, claim-in, entered, queue-in, control, view, no-tally}
 use Rattle.state.specs.Ready.{Onces}
-use Rattle.state.proofs.Tables.{same?, any-cong, any-none}
+use Rattle.rules.proofs.Table.{same?}
+use Rattle.state.proofs.Tables.{any-cong, any-fails}
 use Rattle.queues.proofs.Walk.{entries-mem}
 
 -- what is asked at a sheet of node n is asked at its owner
@@ -45,7 +46,7 @@ module _ (sheets : ℕ) (owner order place taken claim standing : List ℕ) (n t
       sym (at-owner (getD owner k 0) n (λ m. mem t (queue-in order (λ u. getD place u 0) standing claim m k (getD taken m 0)))) ∙ rw (entry-code k)
 
   pub entry-none : here ≡ false → has-entry (view (control 0 sheets 0 owner [] [] [] order place taken) [] [] [] claim standing [] [] no-tally) n t ≡ false
-  entry-none e = any-none sheets entry-at (λ k l. entry-is k ∙ rw e (and-false (eqb (getD owner k 0) n)))
+  entry-none e = any-fails sheets entry-at (λ k l. entry-is k ∙ rw e (and-false (eqb (getD owner k 0) n)))
 
   pub entry-some : here ≡ true → has-entry (view (control 0 sheets 0 owner [] [] [] order place taken) [] [] [] claim standing [] [] no-tally) n t ≡ any sheets (λ k. eqb (getD owner k 0) n && claims (claim-in claim t k))
   entry-some e = any-cong sheets entry-at (λ k. eqb (getD owner k 0) n && claims (claim-in claim t k)) (λ k l. entry-is k ∙ rw e)

@@ -9,7 +9,7 @@ ghost use lib.Dec.{eqb, ltb};
 ghost use Rattle.rules.specs.Table.{all, any};
 ghost use Rattle.rules.specs.State.{claims};
 ghost use Rattle.rules.specs.Steps.{granted, has-taken, finds-invalid, has-entry};
-ghost use Rattle.state.specs.Places.{at};
+ghost use Rattle.rules.proofs.Places.{at};
 ghost use Rattle.state.specs.View.{set?, claim-in, control, view, no-tally};
 ghost use Rattle.state.specs.Ready.{Once, Onces, Owners, Queued, Gone, Behind};
 ghost use Rattle.state.specs.Listed.{Rows, Listed};

@@ -6,9 +6,9 @@ use native.Mathlib.Omega.{arith}
 use native.Mathlib.Nat.{not-suc-le-zero}
 use lib.ListN.{length, getD, set, length-set, replicate}
 use lib.Seq.{getD-set-same, getD-set-other}
-use Rattle.state.specs.Places.{at}
+use Rattle.rules.proofs.Places.{at}
 use Rattle.state.specs.Ready.{Small, Once, Gone, Behind}
-use Rattle.state.proofs.Tables.{same?}
+use Rattle.rules.proofs.Table.{same?}
 use Rattle.state.proofs.Fresh.{zeros}
 
 -- nothing is behind at first

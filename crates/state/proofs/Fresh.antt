@@ -7,7 +7,7 @@ use lib.ListN.{getD, replicate}
 use lib.Dec.{ltb}
 use Rattle.rules.specs.State.{fresh}
 use Rattle.state.specs.declared.Control.{Control}
-use Rattle.state.specs.Places.{entries}
+use Rattle.rules.proofs.Places.{entries}
 use Rattle.state.specs.View.{flat, control, view, header-of, no-tally}
 use Rattle.state.proofs.Steps.{same-state}
 

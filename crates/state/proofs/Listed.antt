@@ -13,12 +13,11 @@ use lib.Dec.{eqb}
 use borrow.Author.Tests.{eqb-true, eqb-false}
 use Rattle.rules.specs.Table.{all, any}
 use Rattle.rules.specs.State.{claims, unclaimed as no-claim}
-use Rattle.rules.proofs.Table.{below?, any-at, any-intro, all-at, all-intro, clash}
+use Rattle.rules.proofs.Table.{bool, same?, below?, any-at, any-intro, all-at, all-intro, clash}
 use Rattle.state.specs.View.{claim-in}
 use Rattle.state.specs.Ready.{Queued}
 use Rattle.state.specs.Fill.{fill}
 use Rattle.state.specs.Listed.{Rows, Lists, Listed}
-use Rattle.state.proofs.Tables.{bool, same?}
 use Rattle.state.proofs.Fresh.{zeros}
 use Rattle.state.proofs.Stores.{flat-in, flat-past, fill-in, fill-out}
 

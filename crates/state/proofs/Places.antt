@@ -10,9 +10,9 @@ use lib.Seq.{length-take-le}
 use lib.Dec.{eqb}
 use Rattle.rules.specs.Steps.{without}
 use Rattle.state.specs.declared.Control.{Control}
-use Rattle.state.specs.Places.{at, by, entries}
+use Rattle.rules.proofs.Places.{at, by, entries, without-snoc}
 use Rattle.state.specs.Ready.{Shaped}
-use Rattle.state.proofs.Tables.{bool}
+use Rattle.rules.proofs.Table.{bool}
 
 pub order-length : (d : Control) → Shaped d → length (take (d .placed) (d .order)) ≡ d .placed
 order-length d shaped = length-take-le (d .placed) (d .order) (rw (shaped .order) (shaped .fits))
@@ -39,10 +39,6 @@ entries-cong order order′ place place′ f g (suc n) a p e =
       entries-cong order order′ place place′ f g n (λ q l. a q (omega arith)) (λ q l. p q (omega arith)) (λ q l. e q (omega arith)),
     )
 
-without-end : (t : ℕ) (l : List ℕ) (u : ℕ) → without t (l ++ u ∷ []) ≡ cond (eqb u t) (without t l) (without t l ++ u ∷ [])
-without-end t [] u = refl
-without-end t (x ∷ l) u = bool (eqb x t) (λ q. rw (q, without-end t l u)) (λ q. rw (q, without-end t l u) (bool (eqb u t) (λ r. rw r) (λ r. rw r)))
-
 pub entries-without : (order : List ℕ) (place : ℕ → ℕ) (f : ℕ → Bool) (t n : ℕ)
     → without t (entries order place f n) ≡ entries order place (λ u. f u && not (eqb u t)) n
 unfolding entries by
@@ -50,6 +46,6 @@ entries-without order place f t zero = refl
 entries-without order place f t (suc n) =
     bool (eqb (place (at order n)) n)
     (λ p. bool (f (at order n))
-    (λ y. rw (p, y, without-end t (entries order place f n) (at order n), entries-without order place f t n) (bool (eqb (at order n) t) (λ z. rw z) (λ z. rw z)))
+    (λ y. rw (p, y, without-snoc t (entries order place f n) (at order n), entries-without order place f t n) (bool (eqb (at order n) t) (λ z. rw z) (λ z. rw z)))
     (λ y. rw (p, y, entries-without order place f t n)))
     (λ p. rw (p, entries-without order place f t n))

@@ -10,10 +10,10 @@ use lib.Dec.{ltb}
 use borrow.Author.Tests.{ltb-true, ltb-false, ne-eqb}
 use Rattle.rules.specs.State.{Tally, is-first}
 use Rattle.state.specs.declared.Control.{Control}
-use Rattle.state.specs.Places.{at}
+use Rattle.rules.proofs.Places.{at}
 use Rattle.state.specs.View.{as-phase, view}
 use Rattle.state.specs.Ready.{Shaped, Known, Queued, Onces, Ready, Rising, Claimed}
-use Rattle.state.proofs.Tables.{bool}
+use Rattle.rules.proofs.Table.{bool}
 use Rattle.state.proofs.Codes.{claims-code}
 use Rattle.state.proofs.Stores.{flat-in}
 use Rattle.state.proofs.Places.{order-length}

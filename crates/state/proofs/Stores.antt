@@ -14,7 +14,8 @@ use borrow.Author.Tests.{ltb-true, ltb-false, lt-ltb, le-ltb}
 use Rattle.rules.specs.Table.{upd, row}
 use Rattle.state.specs.View.{flat}
 use Rattle.state.specs.Fill.{fill}
-use Rattle.state.proofs.Tables.{bool, same?, upd-by, row-by}
+use Rattle.rules.proofs.Table.{bool, same?}
+use Rattle.state.proofs.Tables.{upd-by, row-by}
 
 -- ---- One place
 

@@ -1,4 +1,3 @@
-pub mod Places
 pub mod View
 pub mod Ready
 pub mod Fill

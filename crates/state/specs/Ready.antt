@@ -7,7 +7,7 @@ use mathlib.Core.List.{List}
 use lib.ListN.{length, getD}
 use Rattle.rules.specs.State.{State, is-first, claims}
 use Rattle.state.specs.declared.Control.{Control}
-use Rattle.state.specs.Places.{at}
+use Rattle.rules.proofs.Places.{at}
 
 -- ---- Sizes, which a value at a loop's head or behind a reference does not tell
 

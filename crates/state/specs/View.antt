@@ -15,7 +15,7 @@ use Rattle.state.specs.declared.Verdict.{Verdict}
 use Rattle.state.specs.declared.Verdict.the-variants.{Valid, Invalid}
 use Rattle.state.specs.declared.Answer.{Answer}
 use Rattle.state.specs.declared.Answer.the-variants.{Accepted, Content, Took, Commits, SecondRun, Recommits, Refused}
-use Rattle.state.specs.Places.{entries}
+use Rattle.rules.proofs.Places.{entries}
 
 -- ---- Numbers as the rules' terms
 

@@ -13,7 +13,7 @@ use Rattle.rules.specs.State.{Tally, State, is-first, claims, fresh}
 use Rattle.rules.specs.Steps.{x-on, step}
 use Rattle.rules.proofs.Table.{all-at}
 use Rattle.state.specs.declared.Answer.{Answer}
-use Rattle.state.specs.Places.{at}
+use Rattle.rules.proofs.Places.{at}
 use Rattle.state.specs.View.{advanced, Steps}
 use Rattle.state.specs.Ready.{Known}
 use Rattle.state.proofs.Steps.{state-stepped}
@@ -32,6 +32,11 @@ each : (bound : State → ℕ) (f : State → ℕ → Bool) → all 17 (λ n. al
     → (n : ℕ) → n < 17 → (i : ℕ) → i < bound (state-after n) → f (state-after n) i ≡ true
 each bound f e n h = all-at (bound (state-after n)) (f (state-after n)) (all-at 17 (λ m. all (bound (state-after m)) (f (state-after m))) e n h)
 
+-- and of every save and sheet
+each-sheet : (f : State → ℕ → ℕ → Bool) → all 17 (λ n. all 32 (λ t. all 64 (f (state-after n) t))) ≡ true
+    → (n : ℕ) → n < 17 → (t k : ℕ) → t < 32 → k < 64 → f (state-after n) t k ≡ true
+each-sheet f e n h t k t32 k64 = all-at 64 (f (state-after n) t) (each (λ s. 32) (λ s t. all 64 (f s t)) e n h t t32) k k64
+
 module _ (n : ℕ) (h : n < 17) where
   abbrev s : State
   s = state-after n
@@ -49,7 +54,7 @@ module _ (n : ℕ) (h : n < 17) where
     room = λ t l f. ltb-true (length (s .order)) 32 (once-each (λ s. ltb (length (s .order)) 32) refl n h);
     runs = λ t l. ltb-true (s .runs t) 255 (each (λ s. 32) (λ s t. ltb (s .runs t) 255) refl n h t l);
     rises = λ k l. ltb-true (s .sheet k .wct) 4294967295 (each (λ s. 64) (λ s k. ltb (s .sheet k .wct) 4294967295) refl n h k l);
-    claimed = λ t k t32 k64 e. ltb-true k (s .header .sheets) (implied (claims (s .claim t k)) (ltb k (s .header .sheets)) (all-at 64 (λ k. not (claims (s .claim t k)) || ltb k (s .header .sheets)) (each (λ s. 32) (λ s t. all 64 (λ k. not (claims (s .claim t k)) || ltb k (s .header .sheets))) refl n h t t32) k k64) e);
+    claimed = λ t k t32 k64 e. ltb-true k (s .header .sheets) (implied (claims (s .claim t k)) (ltb k (s .header .sheets)) (each-sheet (λ s t k. not (claims (s .claim t k)) || ltb k (s .header .sheets)) refl n h t k t32 k64) e);
   }
 
 -- one step on

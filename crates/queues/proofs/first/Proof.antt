@@ -1,6 +1,6 @@
 use Rattle.queues.specs.Walk.{stop, halts}
 use Rattle.queues.proofs.Walk.{stop-skip, stop-here, stop-on, stop-end}
-use Rattle.state.specs.Places.{at}
+use Rattle.rules.proofs.Places.{at}
 use native.Mathlib.Omega.{arith}
 use Prim.Native.Nat.{_-_, _≤_}
 use mathlib.Core.Path.{_≡_, sym, _∙_}
