@@ -1,17 +1,17 @@
 -- The calls' needs, each as one law in plain variables.
 use Prim.Native.Nat.{ℕ, zero, suc, _+_, _-_, _*_, _≤_, _<_}
 use mathlib.Core.Path.{_≡_, refl, sym, ap, _∙_}
-use mathlib.Core.Bool.{Bool, true, false}
+use mathlib.Core.Bool.{false}
 use mathlib.Core.List.{List, [], _∷_, _++_}
 use native.Mathlib.Omega.{arith}
 use borrow.Author.Tests.{ne-eqb, lt-ltb, le-ltb}
 use lib.ListN.{length, getD, take, drop, length-take}
 use lib.Seq.{getD-take}
-use Rattle.rules.specs.Bytes.{header, opens, reading, ended, stopped}
+use Rattle.rules.specs.Bytes.{header, opens, reading}
 use Rattle.rules.specs.State.{State, fresh}
 use Rattle.rules.specs.Steps.{Event, run}
 use Rattle.rules.specs.Calls as calls
-use Rattle.rules.specs.Report.{letter, state-lines, stop-line, refusal-line, report, Filled, report-call}
+use Rattle.rules.specs.Report.{letter, stop-line, refusal-line, report, Filled, report-call}
 use Rattle.rules.proofs.Table.{bool}
 use Rattle.rules.proofs.Reached.{Reached}
 use Rattle.rules.proofs.Sessions.{commands-of, final, session-final, final-reached, final-header, stop-final, reply-final, report-final, stop-unopened, reply-unopened, report-unopened}
@@ -20,7 +20,7 @@ use Rattle.wire.specs.Meaning.{opened}
 use Rattle.wire.proofs.Header.{opens-has}
 use Rattle.state.specs.declared.Verdict.{Verdict}
 use Rattle.state.specs.declared.Verdict.the-variants.{Valid, Invalid}
-use Rattle.state.specs.View.{as-phase, view, verdict-of}
+use Rattle.state.specs.View.{as-phase, verdict-of}
 use Rattle.text.specs.Wrote.{Wrote}
 use Rattle.text.specs.Lines.{sheets-of, tally-of}
 use Rattle.text.proofs.Writing.{wrote-as, wrote-none, wrote-next, wrote-front}
@@ -33,8 +33,8 @@ use Rattle.session.specs.declared.Reply.the-variants as reply
 use Rattle.session.specs.declared.Ended.{Ended}
 use Rattle.session.specs.Meaning.{stop-of, reply-of}
 use Rattle.session.specs.Carried.{shows, Within, Carried}
-use Rattle.session.proofs.Needs.{Opening, opening}
-use Rattle.cusphewa.specs.Codes.{coded, verdict-code, answer-code, part-code, Near, NearReply}
+use Rattle.session.proofs.Needs.{Opening}
+use Rattle.cusphewa.specs.Codes.{verdict-code, answer-code, part-code, Near, NearReply}
 
 -- ---- The header
 

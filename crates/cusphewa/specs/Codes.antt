@@ -1,6 +1,6 @@
 -- Answers and parts as numbers, for the host.
 use Prim.Native.Nat.{ℕ, _+_, _*_, _≤_}
-use Rattle.rules.specs.Steps.{Verdict, valid, invalid, Answer, accepted, content-is, took, commits, second-run}
+use Rattle.rules.specs.Steps.{Verdict, valid, invalid, accepted, content-is, took, commits, second-run}
 use Rattle.rules.specs.Calls as calls
 use Rattle.rules.specs.Calls.{no-command, answers, refusal, Part}
 use Rattle.session.specs.declared.Stop.{Stop}

@@ -1,14 +1,14 @@
 -- The lines of the first rows, one row at a time.
-use mathlib.Core.Path.{_≡_, refl, sym, ap, _∙_}
+use mathlib.Core.Path.{_≡_, sym, ap, _∙_}
 use mathlib.Core.List.{List, [], _∷_, _++_, map, map-append, append-assoc, append-nil}
-use Prim.Native.Nat.{ℕ, zero, suc, _+_, _*_, _≤_, _<_}
+use Prim.Native.Nat.{ℕ, _+_, _*_, _<_}
 use native.Mathlib.Numerals.{add-one}
 use native.Mathlib.Omega.{arith}
 use lib.ListN.{length, getD, take, set}
 use lib.Seq.{take-suc, take-suc-set}
 use Rattle.rules.specs.Report as rules
 use Rattle.text.specs.Wrote.{Wrote}
-use Rattle.text.proofs.Writing.{wrote-none, wrote-next, wrote-end}
+use Rattle.text.proofs.Writing.{wrote-none, wrote-next}
 use Rattle.rows.specs.declared.Row.{Row}
 use Rattle.rows.specs.Rows.{row-of, lines-of, letter-of, rows-of}
 

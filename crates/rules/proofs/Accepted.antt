@@ -1,7 +1,7 @@
 -- Every accepted command keeps the invariant, so it holds after any list of commands from new nodes.
-use Prim.Native.Nat.{ℕ, zero, suc, _≤_, _<_}
+use Prim.Native.Nat.{ℕ, _<_}
 use mathlib.Core.Path.{_≡_, refl, sym, ap, _∙_}
-use mathlib.Core.Bool.{Bool, true, false, not, _&&_, _||_, cond, true≢false}
+use mathlib.Core.Bool.{Bool, true, false, not, _&&_, cond, true≢false}
 use mathlib.Core.List.{List, [], _∷_, map}
 use mathlib.Core.Option.{Option, none}
 use native.Mathlib.Omega.{arith}
@@ -9,12 +9,11 @@ use native.Mathlib.Nat.{le-refl, not-suc-le-zero}
 use lib.ListN.{length}
 use lib.Dec.{ltb}
 use borrow.Author.Tests.{eqb-true, not-true, ltb-true}
-use Rattle.rules.specs.Table.{any}
 use Rattle.rules.specs.Sizes.{max-saves}
 use Rattle.rules.specs.Bytes.{Header, Command, Begin, Read, Write, Submit, Take, Decide, Apply, GiveUp}
 use Rattle.rules.specs.State.{Phase, unused, first, submitted, second, committed, dropped, State, fresh, is-first, running, claims}
 use Rattle.rules.specs.Steps.{mem, owns, tests, check, Checked, pass, refuse, submit-save, decide-save, effect, answer, prepend, run}
-use Rattle.rules.specs.Serial.{feed, says-again, History, no-history, commit, join, hear, heard, history, reads-after, first-reads}
+use Rattle.rules.specs.Serial.{feed, says-again, History, no-history, commit, join, hear, heard, reads-after, first-reads}
 use Rattle.rules.specs.Demand3.{events, after, told, first-answers}
 use Rattle.rules.proofs.Table.{bool, and-l, and-r, any-at}
 use Rattle.rules.proofs.Tests.{passed}

@@ -1,19 +1,17 @@
 -- The second-run SUBMIT and DECIDE keep the invariant.
-use Prim.Native.Nat.{ℕ, zero, suc, _≤_, _<_}
-use mathlib.Core.Path.{_≡_, refl, sym, ap, _∙_, fun-ext}
-use mathlib.Core.Bool.{Bool, true, false, not, _&&_, _||_, true≢false, and-false}
+use Prim.Native.Nat.{ℕ, suc, _≤_, _<_}
+use mathlib.Core.Path.{_≡_, refl, sym, ap, _∙_}
+use mathlib.Core.Bool.{Bool, true, false, not, _||_, true≢false}
 use mathlib.Core.Logic.{_≢_}
-use mathlib.Core.List.{List}
 use mathlib.Core.Option.{Option, none, some}
-use native.Mathlib.Omega.{arith}
 use lib.ListN.{length}
 use borrow.Author.Tests.{not-true, ltb-true}
-use Rattle.rules.specs.Table.{upd, row, all}
+use Rattle.rules.specs.Table.{row, all}
 use Rattle.rules.specs.Sizes.{max-saves}
-use Rattle.rules.specs.State.{Phase, unused, first, submitted, second, committed, dropped, Mark, absent, Claim, unclaimed, shared, exclusive, Tally, State, is-unused, is-committed, over, has-copy, is-written, claims, is-x}
-use Rattle.rules.specs.Steps.{mem, holds, before, empty, x-on, granted-as, granted, has-taken, with-phase, decide-save}
+use Rattle.rules.specs.State.{submitted, second, committed, absent, Claim, unclaimed, shared, exclusive, Tally, State, is-committed, over, has-copy, is-written, claims, is-x}
+use Rattle.rules.specs.Steps.{mem, holds, before, x-on, granted-as, granted, has-taken, with-phase, decide-save}
 use Rattle.rules.specs.Serial.{History, enters, commit}
-use Rattle.rules.proofs.Table.{bool, same?, clash, upd-same, upd-other, upd-at, row-at, row-same, row-other, all-at}
+use Rattle.rules.proofs.Table.{same?, upd-same, upd-other, upd-at, row-at, row-same, row-other, all-at}
 use Rattle.rules.proofs.Places.{fold-own, entries-in, entries-before, holds-mem, empty-mem}
 use Rattle.rules.proofs.Invariant.{needs-place, closed, RunsOf, Sure, Stands, live, storing, stores, left-by, Inv}
 use Rattle.rules.proofs.Phases.{x-claims, live-not, runs-two, not-applied, Covers, covered, places-phase, copies-phase, locks-phase, values-phase}

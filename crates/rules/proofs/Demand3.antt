@@ -1,7 +1,7 @@
 -- Demand 3, whole: for every header in range and every list of commands, and for the bytes of every session without refusal 1.
-use Prim.Native.Nat.{ℕ, suc, _+_, _*_, _≤_, _<_}
-use mathlib.Core.Path.{_≡_, refl, sym, ap, ap₂, _∙_}
-use mathlib.Core.Bool.{Bool, true, false, _&&_}
+use Prim.Native.Nat.{ℕ, _+_, _*_, _≤_, _<_}
+use mathlib.Core.Path.{_≡_, refl, sym, ap, ap₂}
+use mathlib.Core.Bool.{true, _&&_}
 use mathlib.Core.List.{List, [], _∷_}
 use native.Mathlib.Omega.{arith}
 use native.Mathlib.Nat.{le-trans, le-of-eq, le-refl}
@@ -10,10 +10,10 @@ use lib.Dec.{leb, ltb}
 use borrow.Author.Tests.{ltb-true}
 use Rattle.rules.specs.Table.{all}
 use Rattle.rules.specs.Sizes.{max-nodes, max-sheets, max-session}
-use Rattle.rules.specs.Bytes.{Header, header, header-size, in-range, opens, Command}
+use Rattle.rules.specs.Bytes.{Header, header, header-size, in-range, Command}
 use Rattle.rules.specs.State.{State}
-use Rattle.rules.specs.Steps.{Answer, Result, answered, check, Checked, pass, refuse, effect, answer, step, run}
-use Rattle.rules.specs.Demand3.{after, told, first-answers, of-four-kinds, accepted-of, Bound, Progress, Demand3, Always, session-commands, SessionDemand3}
+use Rattle.rules.specs.Steps.{Answer, answered, check, Checked, pass, refuse, effect, answer, step, run}
+use Rattle.rules.specs.Demand3.{after, told, first-answers, of-four-kinds, accepted-of, Bound, Progress, Always, session-commands, SessionDemand3}
 use Rattle.rules.proofs.Table.{and-r, all-at}
 use Rattle.rules.proofs.Accepted.{always, header-after, run-accepts, run-refuses}
 use Rattle.rules.proofs.Serializable.{serial-reads, serial-store, two-runs}

@@ -2,9 +2,9 @@
 -- It comes in parts by what each part reads, so that a part carries over as it stands where a command leaves that alone.
 -- Words: t and u are saves, k a sheet, n a node, q a place of the order. `place t` is t's last place. Node n has carried t out
 -- once its APPLY n t was accepted, which is what `applied n t` says.
-use Prim.Native.Nat.{ℕ, zero, suc, _≤_, _<_}
+use Prim.Native.Nat.{ℕ, _≤_, _<_}
 use mathlib.Core.Path.{_≡_}
-use mathlib.Core.Bool.{Bool, true, false, not, _&&_, _||_}
+use mathlib.Core.Bool.{Bool, true, false, not, _&&_}
 use mathlib.Core.List.{List}
 use mathlib.Core.Option.{Option, none, some}
 use lib.ListN.{length}

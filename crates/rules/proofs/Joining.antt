@@ -1,18 +1,17 @@
 -- The first-run SUBMIT keeps the invariant: t has no claim, no entry and no store yet, and its new place is behind all others.
-use Prim.Native.Nat.{ℕ, zero, suc, _≤_, _<_}
+use Prim.Native.Nat.{ℕ, suc, _<_}
 use mathlib.Core.Path.{_≡_, refl, sym, ap, _∙_}
-use mathlib.Core.Bool.{Bool, true, false, not, _&&_, true≢false, and-true}
+use mathlib.Core.Bool.{true, false, not, _&&_, true≢false, and-true}
 use mathlib.Core.Logic.{_≢_}
-use mathlib.Core.List.{List, [], _∷_, _++_}
+use mathlib.Core.List.{[], _∷_, _++_}
 use mathlib.Core.Option.{Option, some}
 use native.Mathlib.Omega.{arith}
 use native.Mathlib.Nat.{le-refl}
 use lib.ListN.{length}
 use lib.Dec.{eqb}
 use borrow.Author.Tests.{ne-eqb}
-use Rattle.rules.specs.Table.{upd, row}
 use Rattle.rules.specs.Sizes.{max-saves}
-use Rattle.rules.specs.State.{Phase, first, submitted, Mark, absent, copied, written, State, is-unused, is-committed, over, has-copy, is-written, claims, is-x}
+use Rattle.rules.specs.State.{first, submitted, Mark, absent, copied, written, State, is-committed, has-copy, is-written, claims, is-x}
 use Rattle.rules.specs.Steps.{claim-of, join-order}
 use Rattle.rules.specs.Serial.{History, join}
 use Rattle.rules.proofs.Table.{bool, same?, clash, upd-same, upd-other, upd-at, row-same, row-other}

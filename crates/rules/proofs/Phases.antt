@@ -1,5 +1,5 @@
 -- What one test of a phase, a mark or a claim says of another, and the changes of one save's phase that keep the parts of the invariant.
-use Prim.Native.Nat.{ℕ, zero, suc, _≤_, _<_}
+use Prim.Native.Nat.{ℕ, _≤_, _<_}
 use mathlib.Core.Path.{_≡_, refl, sym, ap, _∙_}
 use mathlib.Core.Bool.{Bool, true, false, not, _&&_, _||_, true≢false, and-false, and-true}
 use mathlib.Core.List.{List}
@@ -8,11 +8,11 @@ use native.Mathlib.Omega.{arith}
 use lib.ListN.{length}
 use Rattle.rules.specs.Table.{upd}
 use Rattle.rules.specs.Sizes.{max-saves}
-use Rattle.rules.specs.State.{Phase, unused, first, submitted, second, committed, dropped, Mark, absent, copied, written, Claim, unclaimed, shared, exclusive, Tally, State, is-unused, is-first, is-second, is-submitted, is-committed, running, over, has-copy, is-written, claims, is-x}
-use Rattle.rules.specs.Steps.{with-saves, with-phase}
+use Rattle.rules.specs.State.{Phase, unused, first, submitted, second, committed, dropped, Mark, absent, copied, written, Claim, unclaimed, shared, exclusive, Tally, State, is-unused, is-second, is-submitted, is-committed, running, over, has-copy, is-written, claims, is-x}
+use Rattle.rules.specs.Steps.{with-saves}
 use Rattle.rules.proofs.Table.{bool, same?, clash, upd-same, upd-other, upd-at, and-l, and-r}
 use Rattle.rules.proofs.Places.{at, fold-cong, fold-skip}
-use Rattle.rules.proofs.Invariant.{joined, needs-place, locked, closed, RunsOf, Sure, Stands, Places, Copies, Locks, live, storing, stores, left-by, serial-at, Values}
+use Rattle.rules.proofs.Invariant.{joined, needs-place, locked, closed, RunsOf, Sure, Stands, Places, Copies, Locks, live, storing, stores, serial-at, Values}
 
 -- ---- One test of a phase from another, by looking at all six
 

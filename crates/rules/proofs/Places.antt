@@ -10,7 +10,7 @@ use native.Mathlib.Nat.{le-refl, not-suc-le-zero}
 use lib.ListN.{length, getD, length-append, List·getD-append}
 use lib.Seq.{getD-at}
 use lib.Dec.{eqb}
-use borrow.Author.Tests.{eqb-true, eqb-false, eq-eqb, ne-eqb}
+use borrow.Author.Tests.{eqb-true, eq-eqb, ne-eqb}
 use Rattle.rules.specs.Table.{upd}
 use Rattle.rules.specs.State.{Sheet, new-sheet, store}
 use Rattle.rules.specs.Steps.{mem, holds, before, without, empty}

@@ -1,22 +1,22 @@
 -- While a queue holds an entry, some command of the four kinds is accepted: the waiting save of least place can move.
 use Prim.Native.Nat.{ℕ, zero, suc, _≤_, _<_}
-use mathlib.Core.Path.{_≡_, refl, sym, ap, _∙_}
-use mathlib.Core.Bool.{Bool, true, false, not, _&&_, _||_, true≢false, or-true}
-use mathlib.Core.List.{List, []}
+use mathlib.Core.Path.{_≡_, refl, sym, _∙_}
+use mathlib.Core.Bool.{Bool, true, false, not, _&&_, _||_, true≢false}
+use mathlib.Core.List.{[]}
 use mathlib.Core.Option.{Option}
 use native.Mathlib.Omega.{arith}
 use native.Mathlib.Nat.{not-suc-le-zero}
 use lib.ListN.{length}
 use lib.Dec.{ltb}
 use borrow.Author.Tests.{eq-eqb, lt-ltb, ltb-true, ltb-false}
-use Rattle.rules.specs.Table.{all, any}
+use Rattle.rules.specs.Table.{any}
 use Rattle.rules.specs.Sizes.{max-saves}
 use Rattle.rules.specs.Bytes.{Command, Submit, Take, Decide, Apply}
 use Rattle.rules.specs.State.{Phase, unused, first, submitted, second, committed, dropped, Claim, unclaimed, shared, exclusive, State, over, claims}
 use Rattle.rules.specs.Steps.{mem, before, x-on, granted-as, granted, owns, has-taken, tests, check, pass}
 use Rattle.rules.specs.Serial.{History}
 use Rattle.rules.specs.Demand3.{of-four-kinds}
-use Rattle.rules.proofs.Table.{bool, clash, below?, any-at, any-intro, any-none, all-at, all-or}
+use Rattle.rules.proofs.Table.{bool, clash, any-at, any-intro, any-none, all-at, all-or}
 use Rattle.rules.proofs.Tests.{passes}
 use Rattle.rules.proofs.Places.{at, or-r, entries-in, entries-before, entries-nil, by, by-in, by-out, by-test}
 use Rattle.rules.proofs.Invariant.{joined, live, Stands, Inv}

@@ -1,9 +1,9 @@
 -- From the invariant: serial reads, the serial store, and at most two runs.
 use Prim.Native.Nat.{ℕ, zero, suc, _≤_, _<_}
 use mathlib.Core.Path.{_≡_, refl, sym, ap, _∙_}
-use mathlib.Core.Bool.{Bool, true, false, _&&_, cond, true≢false}
+use mathlib.Core.Bool.{Bool, true, false, _&&_, true≢false}
 use mathlib.Core.Logic.{_≢_}
-use mathlib.Core.List.{List, [], _∷_, _++_, foldl-append}
+use mathlib.Core.List.{List, [], _∷_, foldl-append}
 use mathlib.Core.Option.{Option, none, some}
 use native.Mathlib.Omega.{arith}
 use native.Mathlib.Nat.{le-refl, not-suc-le-zero, zero-lt-suc}
@@ -11,13 +11,13 @@ use lib.ListN.{length, getD, take}
 use lib.Seq.{take-suc, take-length}
 use borrow.Author.Tests.{eq-eqb, ne-eqb}
 use Rattle.rules.specs.Bytes.{Header, Command}
-use Rattle.rules.specs.State.{Sheet, new-sheet, store, Phase, unused, first, submitted, second, committed, dropped, State, is-committed, has-copy, is-written, claims}
+use Rattle.rules.specs.State.{new-sheet, Phase, unused, first, submitted, second, committed, dropped, State, is-committed, has-copy, is-written, claims}
 use Rattle.rules.specs.Steps.{before}
 use Rattle.rules.specs.Serial.{History, turn, turns}
 use Rattle.rules.specs.Demand3.{after, told, first-answers, Reads, Store, Runs}
-use Rattle.rules.proofs.Table.{bool, clash, and-r}
+use Rattle.rules.proofs.Table.{bool, and-r}
 use Rattle.rules.proofs.Places.{at, by, fold, fold-cong}
-use Rattle.rules.proofs.Invariant.{Sure, Places, stores, serial-at, Inv}
+use Rattle.rules.proofs.Invariant.{Sure, stores, serial-at, Inv}
 use Rattle.rules.proofs.Phases.{committed-closed, committed-placed, runs-two, x-claims, sheet-shown}
 use Rattle.rules.proofs.Accepted.{always, header-after}
 

@@ -1,14 +1,14 @@
 -- A session from any point on: what it comes to, by one command at a time. The run's loop goes by these laws.
 use Prim.Native.Nat.{ℕ}
 use mathlib.Core.Path.{_≡_, refl}
-use mathlib.Core.Bool.{Bool, true, false}
-use mathlib.Core.List.{List, [], _∷_, _++_, map}
+use mathlib.Core.Bool.{true, false}
+use mathlib.Core.List.{List, [], _++_, map}
 use lib.ListN.{length}
 use Rattle.rules.specs.Bytes.{header, Command, Step, Stop, ended, stopped, Reading, more, opens, reading}
 use Rattle.rules.specs.State.{State, fresh}
 use Rattle.rules.specs.Steps.{check, pass, refuse, effect, answer, Ran, run}
-use Rattle.rules.specs.Calls.{stop-by, step-at, stop-if, stop, Reply, no-command, answers, refusal, last-of, reply-by, reply}
-use Rattle.rules.specs.Report.{state-lines, stop-line, report-if, report}
+use Rattle.rules.specs.Calls.{stop-by, step-at, stop, Reply, no-command, answers, refusal, last-of, reply-by, reply}
+use Rattle.rules.specs.Report.{state-lines, stop-line, report}
 use Rattle.rules.proofs.Accepted.{run-accepts, run-refuses, header-after}
 use Rattle.rules.proofs.Reached.{Reached, reached-fresh, reached-run}
 

@@ -1,10 +1,10 @@
 -- A list of tests: where no refusal is given every test passed, and back.
 use Prim.Native.Nat.{ℕ}
 use native.Mathlib.Omega.{arith}
-use mathlib.Core.Path.{_≡_, refl, sym, _∙_}
-use mathlib.Core.Bool.{Bool, true, false}
+use mathlib.Core.Path.{_≡_, refl}
+use mathlib.Core.Bool.{true}
 use mathlib.Core.List.{List, [], _∷_}
-use Rattle.rules.specs.Steps.{Test, Checked, pass, refuse, first-failed}
+use Rattle.rules.specs.Steps.{Test, pass, refuse, first-failed}
 use Rattle.rules.proofs.Table.{bool}
 
 abbrev pub Passed : List Test → Type 0

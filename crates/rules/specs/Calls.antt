@@ -1,11 +1,11 @@
 -- The calls on a session: where it stops, its last command's answer, and the part that is shown.
-use Prim.Native.Nat.{ℕ, zero, suc}
+use Prim.Native.Nat.{ℕ}
 use mathlib.Core.Bool.{Bool, true, false}
-use mathlib.Core.List.{List, [], _∷_, map}
+use mathlib.Core.List.{List, [], _∷_}
 use lib.ListN.{length, getD, take, drop}
-use Rattle.rules.specs.Bytes.{header, Command, Take, Step, Stop, ended, stopped, opens, reading}
+use Rattle.rules.specs.Bytes.{header, Take, Step, Stop, ended, stopped, opens, reading}
 use Rattle.rules.specs.State.{fresh}
-use Rattle.rules.specs.Steps.{Answer, accepted, Checked, pass, refuse, Event, Ran, run}
+use Rattle.rules.specs.Steps.{Answer, Checked, pass, refuse, Event, Ran, run}
 use Rattle.rules.specs.Demand3.{session-commands}
 
 -- the commands of a session from new nodes, up to the first refusal

@@ -2,10 +2,10 @@
 use Prim.Native.Nat.{ℕ, _+_, _-_, _*_}
 use Prim.Native.Char.{code}
 use Prim.Native.String.{String, [] as end, _∷_ as _then_, _++_}
-use mathlib.Core.Bool.{Bool, true, false, cond}
+use mathlib.Core.Bool.{cond}
 use mathlib.Core.List.{List, [], _∷_}
 use lib.Dec.{eqb, ltb}
-use Rattle.rules.specs.Steps.{valid, invalid, accepted, content-is, took, commits, second-run}
+use Rattle.rules.specs.Steps.{invalid, accepted, content-is, took, commits, second-run}
 use Rattle.rules.specs.Calls.{Reply, no-command, answers, refusal}
 
 -- ---- Texts as bytes

@@ -6,9 +6,8 @@ use mathlib.Core.List.{List, [], _∷_, _++_, map}
 use lib.ListN.{length, drop}
 use lib.Dec.{ltb}
 use Rattle.rules.specs.Sizes.{min-buffer}
-use Rattle.rules.specs.Bytes.{Header, Stop, ended, stopped, opens}
+use Rattle.rules.specs.Bytes.{Stop, ended, stopped, opens}
 use Rattle.rules.specs.State.{Sheet, Phase, unused, first, submitted, second, committed, dropped, Tally, State}
-use Rattle.rules.specs.Steps.{Ran}
 use Rattle.rules.specs.Calls.{session-run, stop}
 
 -- ---- Figures, fields and lines

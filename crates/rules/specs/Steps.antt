@@ -1,5 +1,5 @@
 -- "The step rules" and "Refused steps": for each command its tests with their refusal numbers, its effect and its answer.
-use Prim.Native.Nat.{ℕ, zero, suc}
+use Prim.Native.Nat.{ℕ, suc}
 use mathlib.Core.Bool.{Bool, true, false, not, _&&_, _||_, cond}
 use mathlib.Core.List.{List, [], _∷_, _++_}
 use lib.ListN.{length, getD}
@@ -7,7 +7,7 @@ use lib.Dec.{eqb, ltb}
 use Rattle.rules.specs.Table.{upd, upd2, row, all, any}
 use Rattle.rules.specs.Sizes.{max-saves}
 use Rattle.rules.specs.Bytes.{Command, Begin, Read, Write, Submit, Take, Decide, Apply, GiveUp}
-use Rattle.rules.specs.State.{Sheet, store, Phase, unused, first, submitted, second, committed, dropped, Mark, absent, copied, written, Claim, unclaimed, shared, exclusive, Tally, State, is-unused, is-first, is-second, is-submitted, is-committed, running, over, has-copy, is-written, claims, is-x}
+use Rattle.rules.specs.State.{Sheet, store, Phase, first, submitted, second, committed, dropped, Mark, absent, copied, written, Claim, unclaimed, shared, exclusive, Tally, State, is-unused, is-first, is-second, is-submitted, is-committed, running, over, has-copy, is-written, claims, is-x}
 
 -- ---- Queues: lists of saves, first come first
 

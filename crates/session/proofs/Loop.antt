@@ -1,18 +1,18 @@
 -- The loop's laws: how it starts, goes on and ends.
-use Prim.Native.Nat.{ℕ, zero, suc, _+_, _-_, _≤_, _<_}
+use Prim.Native.Nat.{ℕ, suc, _+_, _-_}
 use mathlib.Core.Path.{_≡_, refl, sym, ap, _∙_}
 use mathlib.Core.Bool.{Bool, true, false}
-use mathlib.Core.List.{List, []}
+use mathlib.Core.List.{List}
 use mathlib.Core.Option.{none, some}
 use native.Mathlib.Omega.{arith}
 use lib.ListN.{length, drop}
-use Rattle.rules.specs.Bytes.{header, header-size, opens, Command, Begin, Read, Write, Submit, Take, Decide, Apply, GiveUp, unknown, cut, whole, Step, ended, stopped, Reading, more, read-from}
+use Rattle.rules.specs.Bytes.{header, header-size, opens, Command, Begin, Read, Write, Submit, Take, Decide, Apply, GiveUp, unknown, cut, whole, Step, ended, stopped, Reading, read-from}
 use Rattle.rules.specs.State.{State, fresh, is-first}
-use Rattle.rules.specs.Steps.{check, pass, refuse, submit-save, decide-save, effect, answer, step}
+use Rattle.rules.specs.Steps.{check, pass, refuse, submit-save, decide-save, effect, answer}
 use Rattle.rules.specs.Calls.{Reply, no-command, answers}
 use Rattle.rules.proofs.Accepted.{same-header}
-use Rattle.rules.proofs.Reached.{Reached, reached-fresh, reached-step}
-use Rattle.rules.proofs.Sessions.{Final, final, final-ends, final-accepts, final-refuses, session-final}
+use Rattle.rules.proofs.Reached.{reached-fresh, reached-step}
+use Rattle.rules.proofs.Sessions.{final, final-ends, final-accepts, final-refuses, session-final}
 use Rattle.wire.specs.Meaning.{front-in}
 use Rattle.wire.proofs.Header.{opens-has}
 use Rattle.wire.proofs.Rest.{at-end, at-unknown, at-cut, at-step, step-fits}

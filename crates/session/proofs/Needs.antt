@@ -1,20 +1,17 @@
 -- The run's needs, each as one law in plain variables.
-use Prim.Native.Nat.{ℕ, zero, suc, _+_, _-_, _≤_, _<_}
-use mathlib.Core.Path.{_≡_, refl, sym, ap, subst, _∙_, fun-ext}
-use mathlib.Core.Bool.{Bool, true, false, cond}
+use Prim.Native.Nat.{ℕ, suc, _+_, _-_, _≤_, _<_}
+use mathlib.Core.Path.{_≡_, refl, sym, ap, _∙_, fun-ext}
+use mathlib.Core.Bool.{true}
 use mathlib.Core.List.{List, [], _∷_}
 use mathlib.Core.Option.{Option, none, some}
 use native.Mathlib.Omega.{arith}
-use native.Mathlib.Numerals.{add-one}
 use lib.ListN.{length, take, drop, length-drop}
 use Rattle.rules.specs.Bytes as bytes
-use Rattle.rules.specs.Bytes.{header, header-size, opens, byte, Command, Front, unknown, cut, whole, stopped}
+use Rattle.rules.specs.Bytes.{header, opens, byte, Command, Front, whole, stopped}
 use Rattle.rules.specs.State as rules
 use Rattle.rules.specs.State.{State, fresh}
-use Rattle.rules.specs.Steps.{step}
-use Rattle.rules.specs.Calls.{no-command}
 use Rattle.rules.proofs.Table.{bool}
-use Rattle.rules.proofs.Sessions.{Final, session-final}
+use Rattle.rules.proofs.Sessions.{session-final}
 use Rattle.wire.specs.declared.Next.{Next}
 use Rattle.wire.specs.declared.Next.the-variants.{Step, Unknown, Cut, End}
 use Rattle.wire.specs.declared.Command as wire
@@ -33,9 +30,7 @@ use Rattle.session.specs.declared.Stop.{Stop}
 use Rattle.session.specs.declared.Stop.the-variants as stop
 use Rattle.session.specs.declared.Reply.{Reply}
 use Rattle.session.specs.declared.Reply.the-variants.{NoCommand}
-use Rattle.session.specs.declared.Ended.{Ended}
 use Rattle.session.specs.Meaning.{refusal-in, reply-to, reply-of, stop-of}
-use Rattle.session.specs.Going.{Going}
 use Rattle.session.specs.Looping.{Arrays, shows, Sizes, Looping}
 use Rattle.session.specs.Carried.{Carried, Within}
 use Rattle.session.proofs.Loop as loop

@@ -1,10 +1,10 @@
 -- What a step relies on follows from the theorem's invariant: the engine proves none of its own.
 use Prim.Native.Nat.{ℕ, _≤_, _<_}
-use mathlib.Core.Path.{_≡_, refl, ap}
+use mathlib.Core.Path.{_≡_, refl}
 use mathlib.Core.Bool.{true, false}
 use mathlib.Core.List.{List}
 use native.Mathlib.Omega.{arith}
-use lib.ListN.{length, getD}
+use lib.ListN.{getD}
 use Rattle.rules.specs.Bytes.{header, opens, byte}
 use Rattle.rules.specs.State.{State, is-first}
 use Rattle.rules.proofs.Table.{below?}

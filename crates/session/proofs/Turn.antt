@@ -1,13 +1,12 @@
 -- One turn of the loop: what a step's equation with the rules says, by whether the answer is a refusal.
-use Prim.Native.Nat.{ℕ, zero, suc, _≤_, _<_}
+use Prim.Native.Nat.{ℕ, _<_}
 use mathlib.Core.Path.{_≡_, refl, sym, ap, _∙_}
-use mathlib.Core.Bool.{Bool, true, false}
 use mathlib.Core.List.{List, [], _∷_}
 use native.Mathlib.Omega.{arith}
 use Rattle.rules.specs.Bytes.{Command, Begin, Read, Write, Submit, Take, Decide, Apply, GiveUp}
 use Rattle.rules.specs.State.{State}
 use Rattle.rules.specs.Steps as rules
-use Rattle.rules.specs.Steps.{Test, tests, Checked, pass, refuse, first-failed, check, effect, Result, answered, refused, Stepped, step-by, step}
+use Rattle.rules.specs.Steps.{Test, tests, Checked, pass, refuse, first-failed, check, effect, answered, refused, Stepped, step-by, step}
 use Rattle.rules.specs.Calls.{answers}
 use Rattle.rules.proofs.Table.{bool}
 use Rattle.state.specs.declared.Answer.{Answer}

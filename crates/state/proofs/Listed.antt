@@ -1,23 +1,20 @@
 -- A test of the sheets that a save claims is one of those listed.
-use Prim.Native.Nat.{ℕ, zero, suc, _+_, _*_, _≤_, _<_}
+use Prim.Native.Nat.{ℕ, _+_, _*_, _≤_, _<_}
 use mathlib.Core.Path.{_≡_, refl, sym, _∙_}
-use mathlib.Core.Bool.{Bool, true, false, not}
+use mathlib.Core.Bool.{Bool, true, false}
 use mathlib.Core.Logic.{_≢_}
 use mathlib.Core.List.{List}
 use native.Mathlib.Omega.{arith}
 use native.Mathlib.Nat.{not-suc-le-zero}
-use native.Mathlib.Numerals.{add-one}
 use lib.ListN.{length, getD, set, length-set, replicate}
 use lib.Seq.{getD-set-same, getD-set-other}
-use lib.Dec.{eqb}
-use borrow.Author.Tests.{eqb-true, eqb-false}
 use Rattle.rules.specs.Table.{all, any}
 use Rattle.rules.specs.State.{claims, unclaimed as no-claim}
-use Rattle.rules.proofs.Table.{bool, same?, below?, any-at, any-intro, all-at, all-intro, clash}
+use Rattle.rules.proofs.Table.{same?, below?, any-at, any-intro, all-at, all-intro, clash}
 use Rattle.state.specs.View.{claim-in}
 use Rattle.state.specs.Ready.{Queued}
 use Rattle.state.specs.Fill.{fill}
-use Rattle.state.specs.Listed.{Rows, Lists, Listed}
+use Rattle.state.specs.Listed.{Lists, Listed}
 use Rattle.state.proofs.Fresh.{zeros}
 use Rattle.state.proofs.Stores.{flat-in, flat-past, fill-in, fill-out}
 

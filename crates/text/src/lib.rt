@@ -1,6 +1,5 @@
 // The report's lines. A writer stores them in a lent buffer from `at` on, and answers the place behind them. Each asks for
 // room as for the longest numbers of its types: a u32 has at most 10 figures.
-ghost use mathlib.Core.Path.{_≡_};
 ghost use mathlib.Core.List.{[], _∷_};
 ghost use Prim.Native.Nat.{_+_, _*_, _<_, _≤_};
 ghost use lib.ListN.{length};

@@ -1,111 +1,82 @@
+-- Answer by answer, its number.
 use native.Mathlib.Omega.{arith}
 use Rattle.cusphewa.proofs.Laws.{told, verdict-small, near-refused}
 use borrow.Author.Needs.{needs}
 use Rattle.cusphewa.proofs.cusphewa_answer.Statement.{statement}
 use Rattle.cusphewa.proofs.cusphewa_answer.Tie as tie
-use Rattle.cusphewa.proofs.cusphewa_answer.Reads as reads
-use Rattle.cusphewa.proofs.cusphewa_answer.Lts as lts
-use Rattle.cusphewa.proofs.code.Reads as code-reads
-use Rattle.cusphewa.proofs.last_answer.Reads as last-answer-reads
-use Rattle.cusphewa.proofs.take_kind.Reads as take-kind-reads
 
--- src/lib.rt:160:9
 last-answer-requires : tie.Need-last-answer-requires
 last-answer-requires c κs = search needs
 
--- src/lib.rt:162:29
 enum-told : tie.Need-enum-told
 enum-told c = search needs
 
--- src/lib.rt:162:29
 code-requires : tie.Need-code-requires
 code-requires c κs = search needs
 
--- src/lib.rt:163:28
 enum-told-2 : tie.Need-enum-told-2
 enum-told-2 c = search needs
 
--- src/lib.rt:163:28
 code-requires-2 : tie.Need-code-requires-2
 code-requires-2 c κs = search needs
 
--- src/lib.rt:164:24
 enum-known-answer : tie.Need-enum-known-answer
 enum-known-answer c = search needs
 
--- src/lib.rt:164:38
 cast-code : tie.Need-cast-code
 cast-code c = search needs
 
--- src/lib.rt:164:30
 code-requires-3 : tie.Need-code-requires-3
 code-requires-3 c κs = search needs
 
--- src/lib.rt:165:21
 enum-known-answer-2 : tie.Need-enum-known-answer-2
 enum-known-answer-2 c = search needs
 
--- src/lib.rt:165:35
 take-kind-requires : tie.Need-take-kind-requires
 take-kind-requires c κs = search needs
 
--- src/lib.rt:165:49
 cast-code-2 : tie.Need-cast-code-2
 cast-code-2 c = search needs
 
--- src/lib.rt:165:30
 code-requires-4 : tie.Need-code-requires-4
 code-requires-4 c κs = omega (arith, c .take-kind .ensures, verdict-small (c .before .before .answer2 .given .0 .1 .0))
 
--- src/lib.rt:166:27
 enum-told-3 : tie.Need-enum-told-3
 enum-told-3 c = search needs
 
--- src/lib.rt:166:27
 code-requires-5 : tie.Need-code-requires-5
 code-requires-5 c κs = search needs
 
--- src/lib.rt:167:29
 enum-told-4 : tie.Need-enum-told-4
 enum-told-4 c = search needs
 
--- src/lib.rt:167:29
 code-requires-6 : tie.Need-code-requires-6
 code-requires-6 c κs = search needs
 
--- src/lib.rt:168:24
 enum-known-answer-3 : tie.Need-enum-known-answer-3
 enum-known-answer-3 c = search needs
 
--- src/lib.rt:168:33
 code-requires-7 : tie.Need-code-requires-7
 code-requires-7 c κs = omega (arith, near-refused _ _ _ (c .before .answer3 .given .1) (c .before .before .before .last-answer .ensures .1))
 
--- src/lib.rt:156:1
 returns : tie.Need-returns
 returns c = told _ _ _ (c .before .before .before .last-answer .ensures .0) (c .before .enum-told .given .1) (c .code .ensures)
 
--- src/lib.rt:156:1
 returns-2 : tie.Need-returns-2
 returns-2 c = told _ _ _ (c .before .before .before .last-answer .ensures .0) (c .before .enum-told2 .given .1) (c .code2 .ensures)
 
--- src/lib.rt:156:1
 returns-3 : tie.Need-returns-3
 returns-3 c = told _ _ _ (c .before .before .before .before .last-answer .ensures .0) (c .before .before .answer .given .1) (c .code3 .ensures)
 
--- src/lib.rt:156:1
 returns-4 : tie.Need-returns-4
 returns-4 c = told _ _ _ (c .before .before .before .before .before .last-answer .ensures .0) (c .before .before .before .answer2 .given .1) (rw (c .before .take-kind .ensures) at (c .code4 .ensures))
 
--- src/lib.rt:156:1
 returns-5 : tie.Need-returns-5
 returns-5 c = told _ _ _ (c .before .before .before .last-answer .ensures .0) (c .before .enum-told3 .given .1) (c .code5 .ensures)
 
--- src/lib.rt:156:1
 returns-6 : tie.Need-returns-6
 returns-6 c = told _ _ _ (c .before .before .before .last-answer .ensures .0) (c .before .enum-told4 .given .1) (c .code6 .ensures)
 
--- src/lib.rt:156:1
 returns-7 : tie.Need-returns-7
 returns-7 c = told _ _ _ (c .before .before .before .before .last-answer .ensures .0) (c .before .before .answer3 .given .1) (c .code7 .ensures)
 

@@ -1,41 +1,31 @@
+-- The part's two numbers in one.
 use native.Mathlib.Omega.{arith}
 use Rattle.cusphewa.proofs.Laws.{coded-end, coded-part, near-end, near-part}
 use borrow.Author.Needs.{needs}
 use Rattle.cusphewa.proofs.cusphewa_shown.Statement.{statement}
 use Rattle.cusphewa.proofs.cusphewa_shown.Tie as tie
-use Rattle.cusphewa.proofs.cusphewa_shown.Reads as reads
-use Rattle.cusphewa.proofs.cusphewa_shown.Lts as lts
-use Rattle.cusphewa.proofs.stop_of.Reads as stop-of-reads
 
--- src/lib.rt:177:9
 stop-of-requires : tie.Need-stop-of-requires
 stop-of-requires c κs = search needs
 
--- src/lib.rt:179:22
 enum-told : tie.Need-enum-told
 enum-told c = search needs
 
--- src/lib.rt:179:22
 mul-result : tie.Need-mul-result
 mul-result c = omega (arith, near-end _ _ (c .enum-told .given .1) (c .before .before .stop-of .ensures .2))
 
--- src/lib.rt:180:23
 enum-known-stop : tie.Need-enum-known-stop
 enum-known-stop c = search needs
 
--- src/lib.rt:180:35
 mul-result-2 : tie.Need-mul-result-2
 mul-result-2 c = omega (arith, near-part _ _ _ _ _ (c .before .stop .given .1) (c .before .before .before .stop-of .ensures .2))
 
--- src/lib.rt:180:35
 add-result : tie.Need-add-result
 add-result c = omega (arith, near-part _ _ _ _ _ (c .before .stop .given .1) (c .before .before .before .stop-of .ensures .2))
 
--- src/lib.rt:173:1
 returns : tie.Need-returns
 returns c = coded-end _ _ (c .before .before .stop-of .ensures .0) (c .enum-told .given .1)
 
--- src/lib.rt:173:1
 returns-2 : tie.Need-returns-2
 returns-2 c = coded-part _ _ (c .before .before .before .stop-of .ensures .0) _ _ _ (c .before .stop .given .1)
 

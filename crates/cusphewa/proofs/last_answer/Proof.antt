@@ -1,3 +1,4 @@
+-- A session that does not open answers refusal 1, another by where its run stops.
 use mathlib.Core.Path.{sym, _∙_}
 use native.Mathlib.Omega.{arith}
 use Rattle.session.proofs.Needs.{opening}
@@ -5,46 +6,33 @@ use Rattle.cusphewa.proofs.Laws.{reply-bad, replies-last, replies-refus
 use borrow.Author.Needs.{needs}
 use Rattle.cusphewa.proofs.last_answer.Statement.{statement}
 use Rattle.cusphewa.proofs.last_answer.Tie as tie
-use Rattle.cusphewa.proofs.last_answer.Reads as reads
-use Rattle.cusphewa.proofs.last_answer.Lts as lts
-use Rattle.session.proofs.run.Reads as run-reads
-use Rattle.wire.proofs.read_header.Reads as read-header-reads
 
--- src/lib.rt:86:9
 read-header-requires : tie.Need-read-header-requires
 read-header-requires c κs = search needs
 
--- src/lib.rt:88:24
 enum-told : tie.Need-enum-told
 enum-told c = search needs
 
--- src/lib.rt:89:24
 enum-known-header : tie.Need-enum-known-header
 enum-known-header c = search needs
 
--- src/lib.rt:90:17
 run-requires : tie.Need-run-requires
 run-requires c κs = sym (c .before .header .given .1) ∙ c .before .before .before .read-header .ensures
 
--- src/lib.rt:93:30
 enum-told-2 : tie.Need-enum-told-2
 enum-told-2 c = search needs
 
--- src/lib.rt:94:31
 enum-known-stop : tie.Need-enum-known-stop
 enum-known-stop c = search needs
 
--- src/lib.rt:83:1
 returns : tie.Need-returns
 returns c = (reply-bad _ (sym (c .enum-told .given .1) ∙ c .before .before .read-header .ensures), omega arith)
 
--- src/lib.rt:83:1
 returns-2 : tie.Need-returns-2
 returns-2 c =
     let o = opening _ _ _ (sym (c .before .before .before .before .header .given .1) ∙ c .before .before .before .before .before .before .read-header .ensures) in
     (replies-last _ _ _ o _ (c .before .before .run .ensures) (c .enum-told2 .given .1), near-last _ _ _ o _ (c .before .before .run .ensures))
 
--- src/lib.rt:83:1
 returns-3 : tie.Need-returns-3
 returns-3 c =
     let o = opening _ _ _ (sym (c .before .before .before .before .before .header .given .1) ∙ c .before .before .before .before .before .before .before .read-header .ensures) in

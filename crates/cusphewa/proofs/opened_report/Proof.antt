@@ -1,3 +1,4 @@
+-- The state's lines, then the stop's.
 use native.Mathlib.Omega.{arith}
 use Rattle.text.proofs.Writing.{wrote-end, wrote-length}
 use Rattle.session.proofs.Needs.{opening}
@@ -5,28 +6,19 @@ use Rattle.cusphewa.proofs.Laws.{small, sheets-small, stop-small, repor
 use borrow.Author.Needs.{needs}
 use Rattle.cusphewa.proofs.opened_report.Statement.{statement}
 use Rattle.cusphewa.proofs.opened_report.Tie as tie
-use Rattle.cusphewa.proofs.opened_report.Reads as reads
-use Rattle.cusphewa.proofs.opened_report.Lts as lts
-use Rattle.cusphewa.proofs.stop_line.Reads as stop-line-reads
-use Rattle.rows.proofs.state_lines.Reads as state-lines-reads
-use Rattle.session.proofs.run.Reads as run-reads
 
--- src/lib.rt:37:9
 run-requires : tie.Need-run-requires
 run-requires c κs = search needs
 
--- src/lib.rt:42:18
 cast-placed : tie.Need-cast-placed
 cast-placed c = search needs
 
--- src/lib.rt:47:9
 state-lines-requires : tie.Need-state-lines-requires
 state-lines-requires c κs =
     let o = opening (c .before .before .before .before .before .before .before .before .before .before .before .before .before .before .before .before .before .args .session .now) _ _ (c .before .before .before .before .before .before .before .before .before .before .before .before .before .before .before .before .before .pre .0) in
     let r = c .before .before .before .before .before .before .before .before .before .before .before .before .before .before .run in
     ((r .ensures .shaped .fits, sheets-small _ _ _ o _ (r .ensures), omega (arith, c .before .before .before .before .before .before .before .before .before .before .before .before .before .before .before .before .before .pre .1)), small _ _ _ o _ (r .ensures))
 
--- src/lib.rt:61:5
 stop-line-requires : tie.Need-stop-line-requires
 stop-line-requires c κs =
     let o = opening (c .before .before .before .before .before .before .before .before .before .before .before .before .before .before .before .before .before .before .before .before .before .args .session .now) _ _ (c .before .before .before .before .before .before .before .before .before .before .before .before .before .before .before .before .before .before .before .before .before .pre .0) in
@@ -34,11 +26,9 @@ stop-line-requires c κs =
     let w = c .before .before .before .state-lines .ensures in
     (omega (arith, wrote-end w, wrote-length w, c .before .before .before .before .before .before .before .before .before .before .before .before .before .before .before .before .before .before .before .before .before .pre .1), stop-small _ _ _ o _ (r .ensures))
 
--- src/lib.rt:33:1
 same-length : tie.Need-same-length
 same-length c = search needs
 
--- src/lib.rt:33:1
 returns : tie.Need-returns
 returns c =
     let o = opening (c .before .before .before .before .before .before .before .before .before .before .before .before .before .before .before .before .before .before .before .before .before .before .before .before .args .session .now) _ _ (c .before .before .before .before .before .before .before .before .before .before .before .before .before .before .before .before .before .before .before .before .before .before .before .before .pre .0) in

@@ -1,3 +1,4 @@
+-- A session that does not open stops with refusal 1, another where its run stops.
 use mathlib.Core.Path.{sym, _∙_}
 use native.Mathlib.Omega.{arith}
 use Rattle.session.proofs.Needs.{opening}
@@ -5,32 +6,22 @@ use Rattle.cusphewa.proofs.Laws.{stop-bad, stops-at, near}
 use borrow.Author.Needs.{needs}
 use Rattle.cusphewa.proofs.stop_of.Statement.{statement}
 use Rattle.cusphewa.proofs.stop_of.Tie as tie
-use Rattle.cusphewa.proofs.stop_of.Reads as reads
-use Rattle.cusphewa.proofs.stop_of.Lts as lts
-use Rattle.session.proofs.run.Reads as run-reads
-use Rattle.wire.proofs.read_header.Reads as read-header-reads
 
--- src/lib.rt:106:9
 read-header-requires : tie.Need-read-header-requires
 read-header-requires c κs = search needs
 
--- src/lib.rt:108:24
 enum-told : tie.Need-enum-told
 enum-told c = search needs
 
--- src/lib.rt:109:24
 enum-known-header : tie.Need-enum-known-header
 enum-known-header c = search needs
 
--- src/lib.rt:110:17
 run-requires : tie.Need-run-requires
 run-requires c κs = sym (c .before .header .given .1) ∙ c .before .before .before .read-header .ensures
 
--- src/lib.rt:103:1
 returns : tie.Need-returns
 returns c = (stop-bad _ (sym (c .enum-told .given .1) ∙ c .before .before .read-header .ensures), omega arith, omega arith)
 
--- src/lib.rt:103:1
 returns-2 : tie.Need-returns-2
 returns-2 c =
     let o = opening _ _ _ (sym (c .before .before .header .given .1) ∙ c .before .before .before .before .read-header .ensures) in

@@ -1,3 +1,4 @@
+-- The loop stops at the first place that halts it; the places before `from` have no entry, so none of them does.
 use Rattle.queues.specs.Walk.{stop, halts}
 use Rattle.queues.proofs.Walk.{stop-skip, stop-here, stop-on, stop-end}
 use Rattle.rules.proofs.Places.{at}

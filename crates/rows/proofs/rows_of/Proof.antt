@@ -1,4 +1,5 @@
-use Prim.Native.Nat.{ℕ, _-_, _≤_}
+-- Row by row, from the first place on.
+use Prim.Native.Nat.{_-_, _≤_}
 use mathlib.Core.Path.{_≡_, refl}
 use mathlib.Core.List.{map}
 use native.Mathlib.Omega.{arith}
@@ -8,9 +9,6 @@ use Rattle.rows.proofs.Laws.{row-more}
 use borrow.Author.Needs.{needs}
 use Rattle.rows.proofs.rows_of.Statement.{statement}
 use Rattle.rows.proofs.rows_of.Tie as tie
-use Rattle.rows.proofs.rows_of.Reads as reads
-use Rattle.rows.proofs.rows_of.Lts as lts
-use Rattle.rows.proofs.letter.Reads as letter-reads
 
 abbrev Inv-loop : tie.InvT-loop
 Inv-loop order runs phase count rows₀ i₀ rows i = (i ≤ count) × (length rows ≡ 32) × (map row-of (take i rows) ≡ rows-of order runs phase i)
@@ -18,55 +16,43 @@ Inv-loop order runs phase count rows₀ i₀ rows i = (i ≤ count) × (length r
 abbrev μ-loop : tie.MeasureT-loop
 μ-loop order runs phase count rows₀ i₀ rows i = count - i
 
--- src/lib.rt:73:5
 loop-holds : tie.Need-loop-holds Inv-loop μ-loop
 unfolding rows-of
 loop-holds c = (search needs, search needs, refl)
 
--- src/lib.rt:74:17
 element-copy-out-t : tie.Need-element-copy-out-t Inv-loop μ-loop
 element-copy-out-t c = search needs
 
--- src/lib.rt:75:17
 cast-k : tie.Need-cast-k Inv-loop μ-loop
 cast-k c = omega (arith, c .before .before .before .pre .1 (c .before .before .loop .i) (c .before .loop-test .taken))
 
--- src/lib.rt:76:24
 element-copy-out-letter : tie.Need-element-copy-out-letter Inv-loop μ-loop
 element-copy-out-letter c = c .before .before .before .pre .1 (c .before .before .loop .i) (c .before .loop-test .taken)
 
--- src/lib.rt:76:13
 letter-requires : tie.Need-letter-requires Inv-loop μ-loop
 letter-requires c κs = search needs
 
--- src/lib.rt:79:19
 element-copy-out-t14 : tie.Need-element-copy-out-t14 Inv-loop μ-loop
 element-copy-out-t14 c = c .before .before .before .before .before .pre .1 (c .before .before .before .before .loop .i) (c .before .before .before .loop-test .taken)
 
--- src/lib.rt:77:9
 mul-rows : tie.Need-mul-rows Inv-loop μ-loop
 mul-rows c = search needs
 
--- src/lib.rt:77:9
 array-set-from-rows : tie.Need-array-set-from-rows Inv-loop μ-loop
 array-set-from-rows c = search needs
 
--- src/lib.rt:82:9
 add-i : tie.Need-add-i Inv-loop μ-loop
 add-i c = search needs
 
--- src/lib.rt:73:5
 loop-less : tie.Need-loop-less Inv-loop μ-loop
 loop-less c = search needs
 
--- src/lib.rt:73:5
 loop-again : tie.Need-loop-again Inv-loop μ-loop
 loop-again c =
     let l = c .before .before .before .before .before .loop in
     let a = c .before .before .before .before .before .before .args in
     (search needs, search needs, row-more (a .order .now) (a .runs .now) (a .phase .now) (l .rows) (l .i) (c .before .letter .result) (omega arith) (c .before .letter .ensures) (l .inv .2))
 
--- src/lib.rt:62:1
 returns : tie.Need-returns Inv-loop μ-loop
 returns c =
     let l = c .before .loop in

@@ -1,62 +1,47 @@
+-- Answer by answer.
 use borrow.Author.Needs.{needs}
 use Rattle.session.proofs.told.Statement.{statement}
 use Rattle.session.proofs.told.Tie as tie
-use Rattle.session.proofs.told.Reads as reads
-use Rattle.session.proofs.told.Lts as lts
 
--- src/lib.rt:43:29
 enum-told : tie.Need-enum-told
 enum-told c = search needs
 
--- src/lib.rt:44:25
 enum-known-a : tie.Need-enum-known-a
 enum-known-a c = search needs
 
--- src/lib.rt:45:22
 enum-known-a-2 : tie.Need-enum-known-a-2
 enum-known-a-2 c = search needs
 
--- src/lib.rt:46:28
 enum-told-2 : tie.Need-enum-told-2
 enum-told-2 c = search needs
 
--- src/lib.rt:47:30
 enum-told-3 : tie.Need-enum-told-3
 enum-told-3 c = search needs
 
--- src/lib.rt:48:30
 enum-told-4 : tie.Need-enum-told-4
 enum-told-4 c = search needs
 
--- src/lib.rt:49:31
 enum-told-5 : tie.Need-enum-told-5
 enum-told-5 c = search needs
 
--- src/lib.rt:39:1
 returns : tie.Need-returns
 returns c = search needs
 
--- src/lib.rt:39:1
 returns-2 : tie.Need-returns-2
 returns-2 c = rw (c .before .a .given .1)
 
--- src/lib.rt:39:1
 returns-3 : tie.Need-returns-3
 returns-3 c = rw (c .before .a2 .given .1)
 
--- src/lib.rt:39:1
 returns-4 : tie.Need-returns-4
 returns-4 c = search needs
 
--- src/lib.rt:39:1
 returns-5 : tie.Need-returns-5
 returns-5 c = search needs
 
--- src/lib.rt:39:1
 returns-6 : tie.Need-returns-6
 returns-6 c = search needs
 
--- src/lib.rt:39:1
 returns-7 : tie.Need-returns-7
 returns-7 c = search needs
 

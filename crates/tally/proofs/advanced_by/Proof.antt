@@ -16,7 +16,7 @@ use prog.Wp.{Heap, Calls, Loops, WpFn, Tables}
 use ghost.Atoms.{Atoms, sem}
 use contract.Monad.{Fun, fact, fact-use}
 use contract.Running.{givenOf, tables, tablesOf}
-use types.Kit.{Given, ‵, raw, _⊛_, some, later, given, learn, check, _$_, _∵_, !, qed, by, move, keep, drop, use1, use2, use3, split, join, pick, fsplit, fjoin, fpick, fpack, feqL, feqI, suffices, frame, await, updating, now as at-once, done}
+use types.Kit.{Given, ‵, raw, _⊛_, some, later, given, learn, check, _$_, _∵_, !, qed, by, move, keep, drop, use1, use2, use3, split, join, pick, fsplit, fjoin, fpick, fpack, feqL, suffices, frame, await, updating, now as at-once, done}
 use types.Tokens.{lft-new, lft-end}
 use types.Run.{look, init, forget, stop, from, load, addr, of-opd, and-then, no-more, assigns, land, returns, enter, alloc1, alloc0, params1, pass1, pass0, free1, free0}
 use types.SemTy.{Body}
@@ -28,7 +28,7 @@ use denote.Plain.{uint-vals, uint-tells, uint-makes}
 use denote.Builtin.{u32, unit}
 use denote.Ref.{RefT, MutRef}
 use denote.Lend.{lends-ref, ref-back}
-use denote.Steps.{only, owned, peeks, nothing}
+use denote.Steps.{only, owned, nothing}
 use denote.Struct.Steps.{spelt}
 use denote.Struct.Laws as LL
 use denote.Triple.Entry.{onEntry}
