@@ -1,11 +1,23 @@
 // One step of a session.
+ghost use mathlib.Core.Path.{_≡_};
 ghost use Rattle.wire.specs.Meaning.{command-of};
 ghost use Rattle.state.specs.View.{control, view, no-tally, Steps};
 ghost use Rattle.state.specs.Ready.{Shaped, Sized, Known, Behind};
 ghost use Rattle.state.specs.Listed.{Listed};
+use state::Answer;
 use state::Session;
 use state::Stepped;
 use wire::Command;
+
+// All commands but SUBMIT leave the number of places as it is.
+fn stays(placed: u8, answer: Answer) -> Stepped
+    ensures { λ r. ⌜ r ≡ record { answer = answer; placed = placed } ⌝ }
+{
+    Stepped {
+        answer: answer,
+        placed: placed,
+    }
+}
 
 // State and answer after a command are those of the rules.
 pub fn step(
@@ -36,15 +48,10 @@ pub fn step(
     ensures kept { λ r. ⌜ Sized (now (value .exit)) (now (seen .exit)) (now (mark .exit)) (now (claim .exit)) (now (standing .exit)) (now (content .exit)) (now (wct .exit)) × Shaped (control nodes sheets (r .placed) (now (owner .entry)) (now (phase .exit)) (now (failed .exit)) (now (runs .exit)) (now (order .exit)) (now (place .exit)) (now (taken .exit))) × Behind (now (order .exit)) (now (standing .exit)) (now (taken .exit)) (now (gone .exit)) × Listed sheets (now (claim .exit)) (now (listed .exit)) (now (many .exit)) ⌝ }
 {
     match c {
-        Command::Begin(t) => {
-            let a = saves::begin(phase, runs, t);
-            Stepped {
-                answer: a,
-                placed: placed,
-            }
-        }
-        Command::Read(t, k) => {
-            let a = copies::read(
+        Command::Begin(t) => stays(placed, saves::begin(phase, runs, t)),
+        Command::Read(t, k) => stays(
+            placed,
+            copies::read(
                 sheets,
                 owner,
                 phase,
@@ -60,19 +67,12 @@ pub fn step(
                 wct,
                 t,
                 k,
-            );
-            Stepped {
-                answer: a,
-                placed: placed,
-            }
-        }
-        Command::Write(t, k, v) => {
-            let a = copies::write(sheets, phase, value, mark, claim, t, k, v);
-            Stepped {
-                answer: a,
-                placed: placed,
-            }
-        }
+            ),
+        ),
+        Command::Write(t, k, v) => stays(
+            placed,
+            copies::write(sheets, phase, value, mark, claim, t, k, v),
+        ),
         Command::Submit(t) => saves::submit(
             sheets,
             placed,
@@ -85,8 +85,9 @@ pub fn step(
             many,
             t,
         ),
-        Command::Take(n) => {
-            let a = nodes::take(
+        Command::Take(n) => stays(
+            placed,
+            nodes::take(
                 nodes,
                 placed,
                 owner,
@@ -101,14 +102,11 @@ pub fn step(
                 standing,
                 wct,
                 n,
-            );
-            Stepped {
-                answer: a,
-                placed: placed,
-            }
-        }
-        Command::Decide(t) => {
-            let a = saves::decide(
+            ),
+        ),
+        Command::Decide(t) => stays(
+            placed,
+            saves::decide(
                 owner,
                 phase,
                 failed,
@@ -123,14 +121,11 @@ pub fn step(
                 many,
                 standing,
                 t,
-            );
-            Stepped {
-                answer: a,
-                placed: placed,
-            }
-        }
-        Command::Apply(n, t) => {
-            let a = nodes::apply(
+            ),
+        ),
+        Command::Apply(n, t) => stays(
+            placed,
+            nodes::apply(
                 nodes,
                 owner,
                 phase,
@@ -148,18 +143,8 @@ pub fn step(
                 wct,
                 n,
                 t,
-            );
-            Stepped {
-                answer: a,
-                placed: placed,
-            }
-        }
-        Command::GiveUp(t) => {
-            let a = saves::give_up(phase, t);
-            Stepped {
-                answer: a,
-                placed: placed,
-            }
-        }
+            ),
+        ),
+        Command::GiveUp(t) => stays(placed, saves::give_up(phase, t)),
     }
 }
