@@ -27,7 +27,7 @@ fn barred(
     requires { ⌜ sheets ≤ 64 ⌝ }
     ensures { λ r. ⌜ r ≡ barred-by sheets (now (phase .entry)) (now (claim .entry)) t k least ⌝ }
 {
-    if 32 <= t || sheets <= k {
+    if Session::SAVE_NUMBERS <= t || sheets <= k {
         return 4;
     }
     let ti = t as usize;

@@ -90,12 +90,14 @@ fn receives(o: u8, n: u8, p: u8, m: u8) -> bool
     2 <= m
 }
 
+// v, if b, and w otherwise.
 fn pick(b: bool, v: u32, w: u32) -> u32
     ensures { λ r. ⌜ r ≡ cond b v w ⌝ }
 {
     if b { v } else { w }
 }
 
+// One more than w, if b.
 fn raise(b: bool, w: u32) -> u32
     requires { ⌜ w < 4294967295 ⌝ }
     ensures { λ r. ⌜ r ≡ cond b (w + 1) w ⌝ }
@@ -103,7 +105,8 @@ fn raise(b: bool, w: u32) -> u32
     if b { w + 1 } else { w }
 }
 
-// The sheets of node n that save t wrote receive its contents, and their WCTs rise.
+// The sheets of node n that save t wrote receive its contents, and their WCTs rise, if it is committed. All sheets are stored to, so that
+// nothing branches.
 fn carry_out(
     owner: &[u8; Session::SHEETS],
     phase: &[u8; Session::SAVES],
@@ -184,7 +187,7 @@ pub fn apply(
     if nodes <= n {
         return Answer::Refused(4);
     }
-    if 32 <= t {
+    if Session::SAVE_NUMBERS <= t {
         return Answer::Refused(4);
     }
     let ti = t as usize;

@@ -11,7 +11,7 @@ ghost use Rattle.queues.specs.Walk.{halt-of, halts, stop, least-of, Walk
 use state::Session;
 
 // No save: a walk that is given it stops only by claims.
-const NO_SAVE: u8 = 32;
+const NO_SAVE: u8 = Session::SAVE_NUMBERS;
 
 // An entry (e) of save u with claim c stops the walk: u is t, or c is `least` or more.
 fn halt(e: u8, c: u8, u: u8, t: u8, least: u8) -> bool

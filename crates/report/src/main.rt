@@ -8,6 +8,7 @@ fn main() {
     let n = io::read_full(STDIN_FILENO, &mut session);
     let mut out = [0u8; 4096];
     let k = cusphewa::cusphewa_report(&session[..n], &mut out);
+    // The slice asks for what the contract does not say in so many words.
     if k <= 4096 {
         io::write_all(STDOUT_FILENO, &out[..k]);
     }

@@ -8,6 +8,7 @@ ghost use Rattle.text.specs.Wrote.{Wrote};
 ghost use Rattle.text.specs.Lines.{sheets-of, tally-of};
 ghost use Rattle.rows.specs.Rows.{row-of, lines-of, letter-of, rows-of, state-text};
 
+// A place of the order: its save, the runs entered, the outcome's letter.
 pub struct Row {
     pub save: u8,
     pub runs: u8,
@@ -37,7 +38,7 @@ pub fn place_lines(buf: &mut [u8], at: usize, rows: &[Row], count: usize) -> usi
     e
 }
 
-// The same of an array by value: whoever calls this is covered.
+// The same of an array by value: a caller lends no slice of structs, which would take a proof by hand.
 pub fn write_rows(buf: &mut [u8], at: usize, rows: [Row; 32], count: usize) -> usize
     requires { ⌜ (count ≤ 32) × (at + 26 * count ≤ length (now buf)) ⌝ }
     ensures { λ r. ⌜ Wrote (now (buf .entry)) at (lines-of (take count rows)) (26 * count) r (now (buf .exit)) ⌝ }

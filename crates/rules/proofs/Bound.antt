@@ -91,23 +91,23 @@ undone-one : (b : Bool) → undone b ≤ 1
 undone-one true = omega arith
 undone-one false = omega arith
 
-abbrev todo-of : Bool → ℕ → ℕ
-todo-of true n = n
-todo-of false n = 0
+abbrev ahead-of : Bool → ℕ → ℕ
+ahead-of true n = n
+ahead-of false n = 0
 
-todo : State → (ℕ → ℕ → Bool) → ℕ → ℕ
-todo s applied t = todo-of (stands? (s .order) (s .place) t) (left (s .phase t) + sum (s .header .nodes) (λ n. undone (applied n t)))
+ahead : State → (ℕ → ℕ → Bool) → ℕ → ℕ
+ahead s applied t = ahead-of (stands? (s .order) (s .place) t) (left (s .phase t) + sum (s .header .nodes) (λ n. undone (applied n t)))
 
 abbrev takes : State → ℕ
 takes s = sum (s .header .nodes) (λ n. length (s .order) - s .taken n)
 
 to-come : State → History → ℕ
-to-come s l = takes s + sum max-saves (todo s (l .applied))
+to-come s l = takes s + sum max-saves (ahead s (l .applied))
 
-todo-most : (s : State) (applied : ℕ → ℕ → Bool) (t : ℕ)
-    → todo s applied t ≤ (s .header .nodes + 2) * one (stands? (s .order) (s .place) t)
-unfolding todo
-todo-most s applied t =
+ahead-most : (s : State) (applied : ℕ → ℕ → Bool) (t : ℕ)
+    → ahead s applied t ≤ (s .header .nodes + 2) * one (stands? (s .order) (s .place) t)
+unfolding ahead
+ahead-most s applied t =
     let n = s .header .nodes in
     bool (stands? (s .order) (s .place) t)
     (λ e. rw e (omega (arith, left-most (s .phase t), sum-bound n 1 (λ m. undone (applied m t)) (λ m _. undone-one (applied m t)))))
@@ -121,7 +121,7 @@ to-come-bound s l =
     omega (
       arith,
       sum-bound n p (λ n. p - s .taken n) (λ n o. omega arith),
-      sum-times max-saves (n + 2) (todo s (l .applied)) (λ t. one (stands? (s .order) (s .place) t)) (λ t _. todo-most s (l .applied) t),
+      sum-times max-saves (n + 2) (ahead s (l .applied)) (λ t. one (stands? (s .order) (s .place) t)) (λ t _. ahead-most s (l .applied) t),
       mul-le-mul-left (n + 2) (standing-few (s .order) (s .place) max-saves),
     )
 
@@ -136,18 +136,18 @@ takes-fall s n hn h =
 
 -- t gets a new phase, with less left
 phase-falls : (s : State) (l : History) (t : ℕ) (new : Phase) (mark : ℕ → ℕ → Mark) (runs : ℕ → ℕ) (tally : Tally) → t < max-saves → Stands (s .order) (s .place) t → left new + 1 ≤ left (s .phase t)
-    → sum max-saves (todo (with-saves s (upd (s .phase) t new) mark runs tally) (l .applied)) + 1 ≤ sum max-saves (todo s (l .applied))
-unfolding todo
+    → sum max-saves (ahead (with-saves s (upd (s .phase) t new) mark runs tally) (l .applied)) + 1 ≤ sum max-saves (ahead s (l .applied))
+unfolding ahead
 phase-falls s l t new mark runs tally ht st h =
-    sum-falls max-saves (todo (with-saves s (upd (s .phase) t new) mark runs tally) (l .applied)) (todo s (l .applied)) 1 t ht
+    sum-falls max-saves (ahead (with-saves s (upd (s .phase) t new) mark runs tally) (l .applied)) (ahead s (l .applied)) 1 t ht
     (rw (stands-true (s .order) (s .place) t st, upd-same (s .phase) t new) (omega arith))
-    (λ u _ d. rw (upd-other (s .phase) t new u d) (le-refl (todo s (l .applied) u)))
+    (λ u _ d. rw (upd-other (s .phase) t new u d) (le-refl (ahead s (l .applied) u)))
 
 apply-falls : (s : State) (l : History) (n t : ℕ) → t < max-saves → n < s .header .nodes → Stands (s .order) (s .place) t → l .applied n t ≡ false
-    → sum max-saves (todo s (upd2 (l .applied) n t true)) + 1 ≤ sum max-saves (todo s (l .applied))
-unfolding todo
+    → sum max-saves (ahead s (upd2 (l .applied) n t true)) + 1 ≤ sum max-saves (ahead s (l .applied))
+unfolding ahead
 apply-falls s l n t ht hn st f =
-    sum-falls max-saves (todo s (upd2 (l .applied) n t true)) (todo s (l .applied)) 1 t ht
+    sum-falls max-saves (ahead s (upd2 (l .applied) n t true)) (ahead s (l .applied)) 1 t ht
     (rw (stands-true (s .order) (s .place) t st) (omega (
       arith,
       sum-falls (s .header .nodes) (λ m. undone (upd2 (l .applied) n t true m t)) (λ m. undone (l .applied m t)) 1 n hn
@@ -160,7 +160,7 @@ apply-falls s l n t ht hn st f =
     less m u = upd2-at (λ b. undone b ≤ undone (l .applied m u)) (l .applied) n t true m u (λ _ _. omega arith) (λ _. le-refl (undone (l .applied m u)))
 
 falls : (s : State) (l : History) (r : ℕ → ℕ → Option ℕ) (c : Command) → Inv s l r → of-four-kinds s c ≡ true → check s c ≡ pass → to-come (effect s c) (hear l c (says-again (answer s c))) < to-come s l
-unfolding to-come todo
+unfolding to-come ahead
 falls s l r (Begin t) v k e = absurd (true≢false (sym k))
 falls s l r (Read t x) v k e = absurd (true≢false (sym k))
 falls s l r (Write t x y) v k e = absurd (true≢false (sym k))

@@ -10,6 +10,7 @@ use Rattle.rules.specs.Sizes.{max-nodes, max-sheets, max-session}
 
 -- ---- The header
 
+-- "node count N, sheet count M, then M bytes, each the owning node of sheet 0, 1 and so on"
 pub record Header : Type 0 where
   pub nodes : ℕ  -- N
   pub sheets : ℕ  -- M
@@ -24,6 +25,7 @@ header b = record { nodes = byte b 0; sheets = byte b 1; owner = byte (take (byt
 abbrev pub header-size : List ℕ → ℕ
 header-size b = 2 + byte b 1
 
+-- N is 1 to 8, M 1 to 64, each owner below N
 abbrev pub in-range : Header → Bool
 in-range h =
     (leb 1 (h .nodes) && leb (h .nodes) max-nodes) && (leb 1 (h .sheets) && leb (h .sheets) max-sheets) && all (h .sheets) (λ k. ltb (h .owner k) (h .nodes))
@@ -34,6 +36,7 @@ opens b = leb (length b) max-session && leb (header-size b) (length b) && in-ran
 
 -- ---- The commands
 
+-- t save, k sheet, n node, v content
 pub data Command : Type 0 where
   Begin : (t : ℕ) → Command
   Read : (t k : ℕ) → Command
@@ -63,6 +66,7 @@ pub record Form : Type 0 where
 abbrev arg : List ℕ → ℕ → ℕ
 arg a i = getD a i 0
 
+-- the table of commands
 abbrev pub commands : List Form
 commands =
     record { number = 1; operands = save ∷ []; command = λ a. Begin (arg a 0) }
@@ -113,7 +117,7 @@ pub record Step : Type 0 where
   pub size : ℕ
   pub command : Command
 
--- where a session stops: at its end, or at a refusal, whose bytes from the offset on are shown
+-- where a session stops: at its end, or at a refusal, with its offset, its number and how many bytes from the offset on are shown
 pub data Stop : Type 0 where
   ended : Stop
   stopped : (offset number shown : ℕ) → Stop

@@ -26,11 +26,13 @@ abbrev pub stop-if : (opens : Bool) → List ℕ → Stop
 stop-if true b = stop-by (session-run b .end) (step-at (reading b .steps) (length (session-run b .events))) (reading b .stop)
 stop-if false b = stopped 0 1 0
 
+-- refusal 1 has offset 0 and shows nothing
 unfoldable pub stop : List ℕ → Stop
 stop b = stop-if (opens b) b
 
 -- ---- The answer of a call on a session
 
+-- "A call on a session gives its last command's answer; a stopped session gives its refusal, one without commands says so."
 pub data Reply : Type 0 where
   no-command : Reply
   answers : Answer → Reply
@@ -61,5 +63,6 @@ part-by (stopped p n shown) b = record { from = p; size = shown }
 unfoldable pub part : List ℕ → Part
 part b = part-by (stop b) b
 
+-- "the part of the session holding it, from its first byte, is handed back"
 abbrev pub shown : List ℕ → List ℕ
 shown b = take (part b .size) (drop (part b .from) b)

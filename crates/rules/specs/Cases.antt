@@ -41,21 +41,28 @@ pub record Case : Type 0 where
 abbrev case : String → Reply → String → String → Case
 case s a p l = record { session = s; answer = a; shown = p; lines = l }
 
--- the fresh session; W up to the APPLY of save 0, with save 1 in its second run, whole
+-- the fresh session
 abbrev fresh : String
 fresh = "01 01 00 "
 
+-- W up to offset 36: both saves are taken
 abbrev W-36 : String
 W-36 = "02 02 00 01  01 00  01 01  02 00 00  02 01 00  03 00 00 00 00 00 07  03 01 00 00 00 00 09  04 00  04 01  05 00  05 00  "
 
+-- up to 38: save 0 is decided
 abbrev W-38 : String
 W-38 = W-36 ++ "06 00  "
 
+-- up to 43: save 0 is carried out, and save 1 in its second run
 abbrev W-43 : String
 W-43 = W-38 ++ "07 00 00  06 01  "
 
+-- its end, behind the second READ of save 1
+abbrev W-end : String
+W-end = "03 01 00 00 00 00 09  04 01  07 00 01  "
+
 abbrev W : String
-W = W-43 ++ "02 01 00  03 01 00 00 00 00 09  04 01  07 00 01  "
+W = W-43 ++ "02 01 00  " ++ W-end
 
 -- save 0 reads the sheet, 1 reads and writes it, 2 reads it; all submitted
 abbrev three : String
@@ -65,7 +72,7 @@ abbrev pub starred : List Case
 starred =
     case W (answers accepted) "" "P 0 1 C\nP 1 2 C\nO 0 9 2\nO 1 0 0\nT 17 1 1\n"
     ∷ case (W-43 ++ "02 01 00") (answers (content-is 7)) "" "P 0 1 C\nP 1 2 U\nO 0 7 1\nO 1 0 0\nT 14 1 0\n"
-    ∷ case (W-38 ++ "06 01") (refusal 38 10) "06 01" "P 0 1 C\nP 1 1 U\nO 0 0 0\nO 1 0 0\nT 11 1 0\nR 38 10\n"
+    ∷ case (W-38 ++ "06 01  " ++ "07 00 00  06 01  02 01 00  " ++ W-end) (refusal 38 10) "06 01" "P 0 1 C\nP 1 1 U\nO 0 0 0\nO 1 0 0\nT 11 1 0\nR 38 10\n"
     ∷ case fresh no-command "" "O 0 0 0\nT 0 0 0\n"
     ∷ case (fresh ++ "01 1F") (answers accepted) "" "O 0 0 0\nT 1 0 0\n"
     ∷ case (fresh ++ "01 20") (refusal 3 4) "01 20" "O 0 0 0\nT 0 0 0\nR 3 4\n"
@@ -90,7 +97,7 @@ refusals =
     ∷ case (fresh ++ "04 00") (refusal 3 5) "04 00" "O 0 0 0\nT 0 0 0\nR 3 5\n"
     ∷ case (fresh ++ "01 00 01 01 02 00 00 03 00 00 00 00 00 01 04 00 05 00 02 01 00") (refusal 21 6) "02 01 00" "P 0 1 U\nO 0 0 0\nT 6 0 0\nR 21 6\n"
     ∷ case (fresh ++ "01 00 03 00 00 00 00 00 05") (refusal 5 7) "03 00 00 00 00 00 05" "O 0 0 0\nT 1 0 0\nR 5 7\n"
-    ∷ case (W-43 ++ "02 01 01") (refusal 43 8) "02 01 01" "P 0 1 C\nP 1 2 U\nO 0 7 1\nO 1 0 0\nT 13 1 0\nR 43 8\n"
+    ∷ case (W-43 ++ "02 01 01  " ++ W-end) (refusal 43 8) "02 01 01" "P 0 1 C\nP 1 2 U\nO 0 7 1\nO 1 0 0\nT 13 1 0\nR 43 8\n"
     ∷ case (fresh ++ "05 00") (refusal 3 9) "05 00" "O 0 0 0\nT 0 0 0\nR 3 9\n"
     ∷ case (W ++ "07 00 01") (refusal 58 11) "07 00 01" "P 0 1 C\nP 1 2 C\nO 0 9 2\nO 1 0 0\nT 17 1 1\nR 58 11\n"
     ∷ []

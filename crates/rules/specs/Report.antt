@@ -15,15 +15,16 @@ use Rattle.rules.specs.Calls.{session-run, stop}
 abbrev figure : ℕ → ℕ
 figure n = code "0" + n % 10
 
--- decimal figures without leading zeros; a number below `fuel` has fewer than `fuel` figures
+-- Decimal figures without leading zeros. A number below `fuel` has at most `fuel` of them.
 unfoldable pub figures : (fuel : ℕ) → ℕ → List ℕ
 figures zero n = []
 figures (suc f) n = let longer = figures f (n / 10) ++ figure n ∷ [] in cond (ltb n 10) (figure n ∷ []) longer
 
+-- "Decimal figures, no leading zeros"
 unfoldable pub decimal : ℕ → List ℕ
 decimal n = figures (suc n) n
 
--- one blank and a figure
+-- "one blank between fields": a blank and a number
 unfoldable pub field : ℕ → List ℕ
 field n = code " " ∷ decimal n
 

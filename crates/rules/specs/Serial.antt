@@ -28,6 +28,7 @@ feed e = record { command = e .command; again = says-again (e .answer) }
 
 -- ---- What the commands say by themselves
 
+-- what the serial run needs to know of each save
 pub record History : Type 0 where
   pub order : List ℕ  -- the saves by first accepted SUBMIT
   pub committed : ℕ → Bool  -- by a DECIDE that answers so or by a second-run SUBMIT

@@ -44,13 +44,14 @@ x-on claim k u = is-x (claim u k)
 
 -- ---- Granting
 
--- An S entry is granted when no X stands before it, an X entry when it stands first. The source leaves "conflict" with a waiting
--- request open; this is the reading taken.
+-- Granting (document 01's term). An S entry is granted when no X stands before it, an X entry when it stands first. The source leaves "conflict" with a waiting
+-- request open; this is the reading taken. A sheet that is not claimed holds nobody up.
 abbrev pub granted-as : Claim → (x : ℕ → Bool) (ahead : List ℕ) → Bool
 granted-as unclaimed x ahead = true
 granted-as shared x ahead = not (holds x ahead)
 granted-as exclusive x ahead = empty ahead
 
+-- save t's entry at sheet k
 abbrev pub granted : State → ℕ → ℕ → Bool
 granted s t k = granted-as (s .claim t k) (x-on (s .claim) k) (before t (s .queue k))
 
@@ -272,9 +273,11 @@ effect s (GiveUp t) = with-phase s t dropped (counted (s .tally))
 
 -- ---- Answers
 
+-- "whether this node found it valid"
 pub data Verdict : Type 0 where
   valid invalid : Verdict
 
+-- READ the content, TAKE the save and the verdict, DECIDE the outcome, the others that they were accepted
 pub data Answer : Type 0 where
   accepted : Answer
   content-is : (v : ℕ) → Answer

@@ -23,7 +23,7 @@ pub fn begin(phase: &mut [u8; Session::SAVES], runs: &mut [u8; Session::SAVES], 
     ensures { λ r. ⌜ ((nodes sheets placed : ℕ) (owner failed order place taken value seen mark claim standing content wct : List ℕ) → Steps (view (control nodes sheets placed owner (now (phase .entry)) failed (now (runs .entry)) order place taken) value seen mark claim standing content wct) (Begin t) (view (control nodes sheets placed owner (now (phase .exit)) failed (now (runs .exit)) order place taken) value seen mark claim standing content wct) r) ⌝ }
     ensures kept { λ _. ⌜ (length (now (phase .exit)) ≡ 32) × (length (now (runs .exit)) ≡ 32) ⌝ }
 {
-    if 32 <= t {
+    if Session::SAVE_NUMBERS <= t {
         return Answer::Refused(4);
     }
     let ti = t as usize;
@@ -43,7 +43,7 @@ pub fn give_up(phase: &mut [u8; Session::SAVES], t: u8) -> Answer
     ensures { λ r. ⌜ ((nodes sheets placed : ℕ) (owner failed runs order place taken value seen mark claim standing content wct : List ℕ) → Steps (view (control nodes sheets placed owner (now (phase .entry)) failed runs order place taken) value seen mark claim standing content wct) (GiveUp t) (view (control nodes sheets placed owner (now (phase .exit)) failed runs order place taken) value seen mark claim standing content wct) r) ⌝ }
     ensures kept { λ _. ⌜ length (now (phase .exit)) ≡ 32 ⌝ }
 {
-    if 32 <= t {
+    if Session::SAVE_NUMBERS <= t {
         return Answer::Refused(4);
     }
     let ti = t as usize;
@@ -79,7 +79,7 @@ fn one(m: u8) -> u8
     1
 }
 
-// The sheets with a mark of save t are listed. Every sheet is stored and only a marked one counted, so that nothing branches.
+// The sheets with a mark of save t are listed. Every sheet is stored and only a marked one counted, so that the loop has no branch.
 fn list_row(
     listed: &mut [u8; Session::COPIES],
     many: &mut [u8; Session::SAVES],
@@ -120,7 +120,7 @@ pub fn submit(
     ensures behind { λ _. ⌜ ((standing taken gone : List ℕ) → ((n : ℕ) → getD taken n 0 ≤ placed) → Behind (now (order .entry)) standing taken gone → Behind (now (order .exit)) standing taken gone) ⌝ }
     ensures listed { λ _. ⌜ (Listed sheets (now (claim .entry)) (now (listed .entry)) (now (many .entry)) → Listed sheets (now (claim .exit)) (now (listed .exit)) (now (many .exit))) ⌝ }
 {
-    if 32 <= t {
+    if Session::SAVE_NUMBERS <= t {
         return Stepped {
             answer: Answer::Refused(4),
             placed: placed,
@@ -209,7 +209,7 @@ pub fn decide(
     ensures { λ r. ⌜ ((nodes sheets placed : ℕ) (value seen content wct : List ℕ) → Listed sheets (now (claim .entry)) (now (listed .entry)) (now (many .entry)) → Steps (view (control nodes sheets placed (now (owner .entry)) (now (phase .entry)) (now (failed .entry)) (now (runs .entry)) (now (order .entry)) (now (place .entry)) (now (taken .entry))) value seen (now (mark .entry)) (now (claim .entry)) (now (standing .entry)) content wct) (Decide t) (view (control nodes sheets placed (now (owner .entry)) (now (phase .exit)) (now (failed .entry)) (now (runs .exit)) (now (order .entry)) (now (place .entry)) (now (taken .entry))) value seen (now (mark .exit)) (now (claim .entry)) (now (standing .entry)) content wct) r) ⌝ }
     ensures kept { λ _. ⌜ (length (now (phase .exit)) ≡ 32) × (length (now (runs .exit)) ≡ 32) × (length (now (mark .exit)) ≡ 2048) ⌝ }
 {
-    if 32 <= t {
+    if Session::SAVE_NUMBERS <= t {
         return Answer::Refused(4);
     }
     let ti = t as usize;

@@ -73,6 +73,7 @@ pub struct Ended {
     pub stop: Stop,
 }
 
+// The end of a run, from the arrays and what the walk came to.
 fn closed(
     nodes: u8,
     sheets: u8,
@@ -122,6 +123,7 @@ pub struct Walked {
     pub stop: Stop,
 }
 
+// Where the walk stops.
 fn halted(placed: u8, tally: Tally, last: Answer, stop: Stop) -> Walked
     ensures { λ r. ⌜ r ≡ record { placed = placed; tally = tally; last = last; stop = stop } ⌝ }
 {

@@ -43,16 +43,23 @@ pub struct Session {
 }
 
 impl Session {
+    // At most so many of each in one session.
     pub const NODES: usize = 8;
 
     pub const SHEETS: usize = 64;
 
     pub const SAVES: usize = 32;
 
+    // Save numbers are below this, as sheet numbers are below the header's count.
+    pub const SAVE_NUMBERS: u8 = 32;
+
+    // A row for each save with a column for each sheet.
     pub const COPIES: usize = Session::SAVES * Session::SHEETS;
 
+    // A row for each node with a column for each save.
     pub const STANDING: usize = Session::NODES * Session::SAVES;
 
+    // New nodes with these sheets, and no save used.
     pub fn fresh(nodes: u8, sheets: u8, owner: [u8; Session::SHEETS]) -> Session
         ensures { λ r. ⌜ shown r no-tally ≡ fresh (header-of nodes sheets owner) ⌝ }
         ensures kept { λ r. ⌜ Shaped (r .control) × Sized (r .value) (r .seen) (r .mark) (r .claim) (r .standing) (r .content) (r .wct) ⌝ }

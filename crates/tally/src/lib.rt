@@ -22,7 +22,7 @@ pub fn advance(t: &mut Tally, a: u32, f: u32, s: u32)
     t.second = t.second + s;
 }
 
-// By value, through the reference: whoever calls this is covered.
+// By value, through the reference: a caller lends no struct, which would take a proof by hand.
 pub fn advanced_by(t: Tally, a: u32, f: u32, s: u32) -> Tally
     requires { ⌜ (t .accepted + a < 2 ^ 32) × (t .first + f < 2 ^ 32) × (t .second + s < 2 ^ 32) ⌝ }
     ensures { λ r. ⌜ r ≡ plus t a f s ⌝ }
@@ -78,6 +78,7 @@ fn recommits(a: Answer) -> u32
 }
 
 impl Tally {
+    // Nothing is counted yet.
     pub fn new() -> Tally
         ensures { λ r. ⌜ (r .accepted ≡ 0) × (r .first ≡ 0) × (r .second ≡ 0) ⌝ }
     {

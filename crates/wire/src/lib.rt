@@ -8,7 +8,7 @@ ghost use Rattle.rules.specs.Table.{all};
 ghost use Rattle.rules.specs.Bytes as rules;
 ghost use Rattle.wire.specs.Meaning.{front-of, front-in, operand-bytes, contents, write-of, opened, owners-of};
 
-// Sizes of one session, as the header states or obeys them.
+// The sizes of one session, which `read_header` tests.
 const MAX_SESSION: usize = 16384;
 
 const MAX_NODES: u8 = 8;
