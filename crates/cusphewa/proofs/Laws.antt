@@ -1,39 +1,35 @@
 -- The calls' needs, each as one law in plain variables.
-use Prim.Native.Nat.{ℕ, zero, suc, _+_, _-_, _*_, _≤_, _<_}
-use mathlib.Core.Path.{_≡_, refl, sym, ap, _∙_}
+use Prim.Native.Nat.{ℕ, _+_, _-_, _*_, _≤_, _<_}
+use mathlib.Core.Path.{_≡_, sym, ap, _∙_}
 use mathlib.Core.Bool.{false}
-use mathlib.Core.List.{List, [], _∷_, _++_}
+use mathlib.Core.List.{List, [], _∷_}
 use native.Mathlib.Omega.{arith}
-use borrow.Author.Tests.{ne-eqb, lt-ltb, le-ltb}
-use lib.ListN.{length, getD, take, drop, length-take}
-use lib.Seq.{getD-take}
+use borrow.Author.Tests.{lt-ltb, le-ltb}
+use lib.ListN.{length, take, drop}
 use Rattle.rules.specs.Bytes.{header, opens, reading}
-use Rattle.rules.specs.State.{State, fresh}
+use Rattle.rules.specs.State.{fresh}
 use Rattle.rules.specs.Steps.{Event, run}
 use Rattle.rules.specs.Calls as calls
-use Rattle.rules.specs.Report.{letter, stop-line, refusal-line, report, Filled, report-call}
+use Rattle.rules.specs.Report.{stop-line, refusal-line, report, Filled, report-call}
 use Rattle.rules.proofs.Table.{bool}
-use Rattle.rules.proofs.Reached.{Reached}
-use Rattle.rules.proofs.Sessions.{commands-of, final, session-final, final-reached, final-header, stop-final, reply-final, report-final, stop-unopened, reply-unopened, report-unopened}
+use Rattle.rules.proofs.Sessions.{commands-of, final, session-final, stop-final, reply-final, stop-unopened, reply-unopened, report-unopened}
 use Rattle.wire.specs.declared.Opened.the-variants.{Header, Bad}
 use Rattle.wire.specs.Meaning.{opened}
 use Rattle.wire.proofs.Header.{opens-has}
 use Rattle.state.specs.declared.Verdict.{Verdict}
 use Rattle.state.specs.declared.Verdict.the-variants.{Valid, Invalid}
-use Rattle.state.specs.View.{as-phase, verdict-of}
+use Rattle.state.specs.View.{verdict-of}
 use Rattle.text.specs.Wrote.{Wrote}
-use Rattle.text.specs.Lines.{sheets-of, tally-of}
-use Rattle.text.proofs.Writing.{wrote-as, wrote-none, wrote-next, wrote-front}
-use Rattle.rows.specs.Rows.{letter-of, rows-of, state-text}
-use Rattle.rows.proofs.Shown.{Shown, shown}
+use Rattle.text.proofs.Writing.{wrote-front}
 use Rattle.session.specs.declared.Stop.{Stop}
 use Rattle.session.specs.declared.Stop.the-variants.{End, Refused}
 use Rattle.session.specs.declared.Reply.{Reply}
 use Rattle.session.specs.declared.Reply.the-variants as reply
 use Rattle.session.specs.declared.Ended.{Ended}
 use Rattle.session.specs.Meaning.{stop-of, reply-of}
-use Rattle.session.specs.Carried.{shows, Within, Carried}
+use Rattle.session.specs.Carried.{Within, Answered}
 use Rattle.session.proofs.Needs.{Opening}
+use Rattle.session.proofs.Lines.{within-less}
 use Rattle.cusphewa.specs.Codes.{verdict-code, answer-code, part-code, Near, NearReply}
 
 -- ---- The header
@@ -45,35 +41,7 @@ unopened b e = bool (opens b) (λ o. absurd (clash (rw o at e))) (λ o. o)
     clash : {n m : ℕ} → Bad ≡ Header n m → ⊥
     clash f = let z : _≡_ {A = ℕ} 0 1 = cc in omega arith
 
--- ---- R p c
-
-pub no-line : (l : List ℕ) (a : ℕ) (s : Stop) → s ≡ End → Wrote l a (stop-line (stop-of s)) 24 a l
-unfolding stop-line
-no-line l a s e = rw e (wrote-as refl (omega arith) (wrote-none l a))
-
-pub stop-written : {l m : List ℕ} {a r : ℕ} (s : Stop) (p n k : ℕ) → s ≡ Refused p n k → Wrote l a (refusal-line p n) 24 r m → Wrote l a (stop-line (stop-of s)) 24 r m
-unfolding stop-line
-stop-written s p n k e w = rw e w
-
-pub within-less : (n m : ℕ) (s : Stop) → n ≤ m → Within n s → Within m s
-within-less n m End l w = tt
-within-less n m (Refused p c k) l w = omega arith
-
-pub within-at : (m : ℕ) (s : Stop) (p n k : ℕ) → s ≡ Refused p n k → Within m s → p + k ≤ m
-within-at m s p n k e w = rw e at w
-
-pub offset-small : (s : Stop) (p n k : ℕ) → s ≡ Refused p n k → Within 16384 s → p ≤ 16384
-offset-small s p n k e w = omega (arith, within-at 16384 s p n k e w)
-
--- ---- A state's lines
-
-letter-same : (n : ℕ) → letter (as-phase n) ≡ letter-of n
-letter-same zero = refl
-letter-same (suc zero) = refl
-letter-same (suc (suc zero)) = refl
-letter-same (suc (suc (suc zero))) = refl
-letter-same (suc (suc (suc (suc zero)))) = refl
-letter-same (suc (suc (suc (suc (suc p))))) = rw (ne-eqb (suc (suc (suc (suc (suc p))))) 4 (λ e. omega arith), lt-ltb 4 (suc (suc (suc (suc (suc p))))) (omega arith))
+-- ---- Where a run stops
 
 near-by : (n : ℕ) (s : Stop) → n ≤ 16384 → Within 16384 s → Near n s
 near-by n End l w = l
@@ -88,57 +56,17 @@ final-last : (b : List ℕ) (p n : ℕ) → session-final b .last ≡ calls.refu
 unfolding final
 final-last b p n e = last-of-none calls.no-command (run (fresh (header b)) (commands-of (reading b)) .events) p n (λ q. let z : _≡_ {A = ℕ} 0 1 = cc in omega arith) e
 
-module _ (b : List ℕ) (nodes sheets : ℕ) (o : Opening b nodes sheets) (r : Ended) (v : Carried b r) where
-  abbrev s : State
-  s = shows r (v .tables) .state
-
-  state-is : session-final b .state ≡ s
-  state-is = ap (λ f. f .state) (v .same)
-
-  reached : Reached s
-  reached = rw (← state-is) (final-reached b)
-
-  header-is : s .header ≡ header b
-  header-is = ap (λ x. x .header) (sym state-is) ∙ final-header b
-
-  long : length (s .order) ≡ r .control .placed
-  long = length-take (r .control .placed) (r .control .order) ∙ omega (arith, v .shaped .fits, v .shaped .order)
-
-  pub small : (q : ℕ) → q < r .control .placed → getD (r .control .order) q 0 < 32
-  small q l = rw (getD-take (r .control .placed) (r .control .order) q 0 l) at (reached .inv .places .small (getD (s .order) q 0) (reached .inv .places .placed q (rw long l)))
-
-  pub sheets-small : sheets ≤ 64
-  sheets-small = rw (o .sheets-are) (opens-has b (o .opened-well) .0 .sheets)
-
+module _ (b : List ℕ) (nodes sheets : ℕ) (o : Opening b nodes sheets) (r : Ended) (v : Answered b r) where
   pub stop-small : Within 16384 (r .stop)
   stop-small = within-less (length b) 16384 (r .stop) (opens-has b (o .opened-well) .0 .size) (v .within)
-
-  arrays-show : Shown s (r .control .order) (r .control .runs) (r .control .phase) (r .control .placed) (r .content) (r .wct) sheets
-  arrays-show = record {
-    places = omega (arith, v .shaped .fits, v .shaped .order);
-    ordered = refl;
-    entered = λ i l. refl;
-    outcomes = λ i l. letter-same (getD (r .control .phase) (getD (r .control .order) i 0) 0);
-    counted = ap (λ h. h .sheets) header-is ∙ sym (o .sheets-are);
-    sheets = λ k l. refl;
-  }
-
-  -- the report is the state's lines and the stop's
-  pub report-written : {l m n : List ℕ} {e z : ℕ}
-      → Wrote l 0 (state-text (rows-of (r .control .order) (r .control .runs) (r .control .phase) (r .control .placed)) (sheets-of (r .content) (r .wct)) sheets (tally-of (r .tally .accepted) (r .tally .first) (r .tally .second))) 3107 e m
-      → Wrote m e (stop-line (stop-of (r .stop))) 24 z n → Wrote l 0 (report b) 3131 z n
-  report-written w x = wrote-next whole (omega arith) w x
-    where
-      whole : state-text (rows-of (r .control .order) (r .control .runs) (r .control .phase) (r .control .placed)) (sheets-of (r .content) (r .wct)) sheets (tally-of (r .tally .accepted) (r .tally .first) (r .tally .second)) ++ stop-line (stop-of (r .stop)) ≡ report b
-      whole = rw (shown s arrays-show) (sym (report-final b (o .opened-well) ∙ rw (v .same)))
 
   -- ---- The answer and the stop
 
   pub stops-at : stop-of (r .stop) ≡ calls.stop b
-  stops-at = sym (stop-final b (o .opened-well) ∙ ap (λ f. f .stop) (v .same))
+  stops-at = sym (stop-final b (o .opened-well) ∙ v .stops)
 
   replies : calls.reply b ≡ Rattle.rules.proofs.Sessions.reply-of (stop-of (r .stop)) (reply-of (r .last))
-  replies = reply-final b (o .opened-well) ∙ rw (v .same)
+  replies = reply-final b (o .opened-well) ∙ rw (v .stops, v .replies)
 
   pub replies-last : r .stop ≡ End → reply-of (r .last) ≡ calls.reply b
   replies-last e = sym (replies ∙ rw e)
@@ -150,7 +78,7 @@ module _ (b : List ℕ) (nodes sheets : ℕ) (o : Opening b nodes sheets) (r : E
   near = near-by (length b) (r .stop) (opens-has b (o .opened-well) .0 .size) stop-small
 
   pub near-last : NearReply (r .last)
-  near-last = go (r .last) (r .stop) (ap (λ f. f .last) (v .same))
+  near-last = go (r .last) (r .stop) (v .replies)
     where
       go : (x : Reply) (st : Stop) → session-final b .last ≡ reply-of x → NearReply x
       go reply.NoCommand st e = tt

@@ -1,84 +1,55 @@
 // The calls on a session: its report, its answer, the part that is shown.
+use session::Ended;
+use session::MIN_BUFFER;
 use session::Reply;
 use session::Stop;
 use state::Verdict;
 use wire::Opened;
 ghost use mathlib.Core.Path.{_≡_};
-ghost use Prim.Native.Nat.{_+_, _<_, _≤_};
+ghost use Prim.Native.Nat.{_<_, _≤_};
 ghost use lib.ListN.{length};
 ghost use Rattle.rules.specs.Demand3.{SessionDemand3};
 ghost use Rattle.rules.specs.Calls as calls;
 ghost use Rattle.rules.specs.Report as rules;
-ghost use Rattle.text.specs.Wrote.{Wrote};
 ghost use Rattle.wire.specs.Meaning.{opened};
 ghost use Rattle.wire.specs.declared.Opened.the-variants.{Header};
 ghost use Rattle.session.specs.Meaning.{stop-of, reply-of};
-ghost use Rattle.session.specs.Carried.{Within};
+ghost use Rattle.session.specs.Carried.{Within, Answered};
 ghost use Rattle.state.specs.View.{verdict-of};
 ghost use Rattle.cusphewa.specs.Codes.{coded, verdict-code, answer-code, part-code, Near, NearReply};
 
 // ---- The report
-
-// R p c, after a refusal only.
-fn stop_line(buf: &mut [u8], at: usize, stop: Stop) -> usize
-    requires { ⌜ (at + 24 ≤ length (now buf)) × Within 16384 stop ⌝ }
-    ensures { λ r. ⌜ Wrote (now (buf .entry)) at (rules.stop-line (stop-of stop)) 24 r (now (buf .exit)) ⌝ }
-{
-    match stop {
-        Stop::End => at,
-        Stop::Refused(p, n, _) => text::refusal_line(buf, at, p as u32, n),
-    }
-}
-
-// The report of a session with this header.
-fn opened_report(session: &[u8], report: &mut [u8], nodes: u8, sheets: u8) -> usize
-    requires { ⌜ (Header nodes sheets ≡ opened (now session)) × (4096 ≤ length (now report)) ⌝ }
-    ensures { λ r. ⌜ Wrote (now (report .entry)) 0 (rules.report (now (session .entry))) 3131 r (now (report .exit)) ⌝ }
-{
-    let e = session::run(session, nodes, sheets);
-    let c = e.control;
-    let order = c.order;
-    let runs = c.runs;
-    let phase = c.phase;
-    let placed = c.placed as usize;
-    let content = e.content;
-    let wct = e.wct;
-    let t = e.tally;
-    let stop = e.stop;
-    let at = rows::state_lines(
-        report,
-        0,
-        &order,
-        &runs,
-        &phase,
-        placed,
-        &content,
-        &wct,
-        sheets as usize,
-        t.accepted,
-        t.first,
-        t.second,
-    );
-    stop_line(report, at, stop)
-}
 
 // The whole-session call, for the host: the report's length, or 0 where the buffer is too short, which is then untouched.
 #[no_mangle]
 pub extern "C" fn cusphewa_report(session: &[u8], report: &mut [u8]) -> usize
     ensures { λ r. ⌜ record { size = r; buffer = now (report .exit) } ≡ rules.report-call (now (session .entry)) (now (report .entry)) ⌝ }
     ensures demand3 { λ _. ⌜ SessionDemand3 (now (session .entry)) ⌝ }
+    ensures fits { λ r. ⌜ r ≤ length (now (report .entry)) ⌝ }
 {
-    if report.len() < 4096 {
+    if report.len() < MIN_BUFFER {
         return 0;
     }
     let header = wire::read_header(session);
     match header {
         Opened::Bad => text::refusal_line(report, 0, 0, 1),
-        Opened::Header(nodes, sheets) => opened_report(session, report, nodes, sheets),
+        Opened::Header(nodes, sheets) => {
+            let e = session::run(session, report, nodes, sheets);
+            e.size
+        }
     }
 }
 
 // ---- The answer
+
+// A run that is lent no room for a report, and writes none.
+fn unreported(session: &[u8], nodes: u8, sheets: u16) -> Ended
+    requires { ⌜ Header nodes sheets ≡ opened (now session) ⌝ }
+    ensures { λ r. ⌜ Answered (now (session .entry)) r ⌝ }
+{
+    let mut room = [0u8; 0];
+    session::run(session, &mut room, nodes, sheets)
+}
 
 // The last command's answer, or the refusal.
 pub fn last_answer(session: &[u8]) -> Reply
@@ -89,7 +60,7 @@ pub fn last_answer(session: &[u8]) -> Reply
     match header {
         Opened::Bad => Reply::Refused(0, 1),
         Opened::Header(nodes, sheets) => {
-            let e = session::run(session, nodes, sheets);
+            let e = unreported(session, nodes, sheets);
             let stop = e.stop;
             match stop {
                 Stop::End => e.last,
@@ -109,7 +80,7 @@ fn stop_of(session: &[u8]) -> Stop
     match header {
         Opened::Bad => Stop::Refused(0, 1, 0),
         Opened::Header(nodes, sheets) => {
-            let e = session::run(session, nodes, sheets);
+            let e = unreported(session, nodes, sheets);
             e.stop
         }
     }

@@ -16,32 +16,22 @@ use Rattle.rules.specs.State.{claims}
 use Rattle.rules.specs.Steps as rules
 use Rattle.rules.specs.Steps.{fails-at, finds-invalid}
 use Rattle.rules.proofs.Table.{bool, same?, below?, and-i, clash, any-intro}
-use Rattle.state.specs.declared.Control.{Control}
+use Rattle.rules.proofs.Places.{at, by}
 use Rattle.state.specs.declared.Verdict.{Verdict}
 use Rattle.state.specs.declared.Verdict.the-variants.{Valid, Invalid}
 use Rattle.state.specs.declared.Answer.the-variants.{Took, Refused}
-use Rattle.rules.proofs.Places.{at, by}
-use Rattle.state.specs.View.{set?, claim-in, entered, queue-in, view, no-tally, verdict-of, Steps}
-use Rattle.state.specs.Ready.{Ready, Claimed}
+use Rattle.state.specs.Parts.{Parts, byte-sizes, put, store, CLAIM, STANDING, OWNER, FAILED, ORDER, PLACE, TAKEN}
+use Rattle.state.specs.View.{set?, claim-in, entered, queue-in, nodes, placed, view, no-tally, verdict-of}
+use Rattle.state.specs.Changes.{moving-on}
+use Rattle.state.specs.Ready.{Whole, Ready, Trimmed}
+use Rattle.state.specs.Lent.{Steps}
 use Rattle.state.proofs.Tables.{upd-by, any-fails}
+use Rattle.state.proofs.Parts.{whole-store}
 use Rattle.state.proofs.Stores.{view-set, flat-past}
-use Rattle.state.proofs.Listed.{unclaimed}
+use Rattle.state.proofs.Behind.{behind-moved, behind-taken}
 use Rattle.state.proofs.Places.{entries-on, entries-cong, order-length}
 use Rattle.state.proofs.Steps.{refused, accepted, same-state}
-
-abbrev pub took : Control → (failed : List ℕ) → (n : ℕ) → Control
-took d failed n = record {
-  nodes = d .nodes;
-  sheets = d .sheets;
-  placed = d .placed;
-  owner = d .owner;
-  phase = d .phase;
-  failed = failed;
-  runs = d .runs;
-  order = d .order;
-  place = d .place;
-  taken = set (d .taken) n (getD (d .taken) n 0 + 1);
-}
+use Rattle.state.proofs.Lent.{Holds}
 
 -- the failed mark of an invalid save, and of a valid one
 failed-set : (l : List ℕ) (t : ℕ) → t < length l → _≡_ {A = ℕ → Bool} (λ j. set? (getD (set l t 1) j 0)) (upd (λ j. set? (getD l j 0)) t (set? (getD l t 0) || true))
@@ -51,120 +41,204 @@ failed-keep : (l : List ℕ) (t : ℕ) → _≡_ {A = ℕ → Bool} (λ j. set? 
 failed-keep l t = upd-by (λ j. set? (getD l j 0)) (λ j. set? (getD l j 0)) t (set? (getD l t 0) || false) (sym (or-false (set? (getD l t 0)))) (λ j n. refl)
 
 -- a save that claims a sheet of node n claims one of the header's
-pub here : (sheets : ℕ) (owner claim : List ℕ) (n t : ℕ) → t < 32 → Claimed sheets claim
-    → any sheets (λ k. eqb (getD owner k 0) n && claims (claim-in claim t k)) ≡ false → (k : ℕ) → getD owner k 0 ≡ n → claims (claim-in claim t k) ≡ true → ⊥
-here sheets owner claim n t t32 only f k o c =
-    below? k 64
-    (λ k64.
-    let z : getD claim (t * 64 + k) 0 ≢ 0 = λ q. clash (claims (claim-in claim t k)) c (unclaimed claim t k q) in
-    true≢false (sym (any-intro sheets (λ j. eqb (getD owner j 0) n && claims (claim-in claim t j)) k (only t k t32 k64 z) (and-i (eqb (getD owner k 0) n) (claims (claim-in claim t k)) (eq-eqb (getD owner k 0) n o) c)) ∙ f))
-    (λ far. clash (claims (claim-in claim t k)) c (rw (flat-past claim t k far)))
+here : (m : ℕ) (owner claim : List ℕ) (n t : ℕ) → any m (λ k. eqb (getD owner k 0) n && claims (claim-in m claim t k)) ≡ false
+    → (k : ℕ) → getD owner k 0 ≡ n → claims (claim-in m claim t k) ≡ true → ⊥
+here m owner claim n t f k o c =
+    below? k m
+    (λ l. true≢false (sym (any-intro m (λ j. eqb (getD owner j 0) n && claims (claim-in m claim t j)) k l (and-i (eqb (getD owner k 0) n) (claims (claim-in m claim t k)) (eq-eqb (getD owner k 0) n o) c)) ∙ f))
+    (λ l. clash (claims (claim-in m claim t k)) c (rw (flat-past m claim t k l)))
 
-module _ (d : Control) (ready : Ready d) where
-  pub take-9 : (value seen mark claim standing content wct : List ℕ) (n : ℕ) → n < d .nodes → d .placed ≤ getD (d .taken) n 0
-      → Steps (view d value seen mark claim standing content wct) (Take n) (view d value seen mark claim standing content wct) (Refused 9)
-  take-9 value seen mark claim standing content wct n h l = refused (λ tally. rw (lt-ltb n (d .nodes) h, order-length d (ready .shaped), le-ltb (getD (d .taken) n 0) (d .placed) l))
+-- node n has taken save t, which stands there
+abbrev pub entering : Parts → (n t : ℕ) → Parts
+entering d n t = moving-on (store d STANDING (n * 32 + t) 1) n
 
-  -- t's byte alone may change, and is set where t claims a sheet of node n
-  module _ (claim standing standing′ : List ℕ) (n : ℕ) (n8 : n < 8) (h : getD (d .taken) n 0 < d .placed)
-      (others : (j : ℕ) → j ≢ n * 32 + at (d .order) (getD (d .taken) n 0) → getD standing′ j 0 ≡ getD standing j 0)
-      (set-here : (k : ℕ) → getD (d .owner) k 0 ≡ n → claims (claim-in claim (at (d .order) (getD (d .taken) n 0)) k) ≡ true
-      → set? (getD standing′ (n * 32 + at (d .order) (getD (d .taken) n 0)) 0) ≡ true) where
-    abbrev p : ℕ
-    p = getD (d .taken) n 0
+module _ {m : ℕ} {d : Parts} (ready : Ready m d) (n : ℕ) (ln : n < nodes d) where
+  abbrev p : ℕ
+  p = getD (d TAKEN) n 0
 
-    abbrev t : ℕ
-    t = at (d .order) (getD (d .taken) n 0)
+  abbrev t : ℕ
+  t = at (d ORDER) (getD (d TAKEN) n 0)
 
-    abbrev place : ℕ → ℕ
-    place u = getD (d .place) u 0
+  abbrev place : ℕ → ℕ
+  place u = getD (d PLACE) u 0
 
-    -- the entries of the places before are as they were
-    stays : (m k q : ℕ) → q < getD (d .taken) m 0 → entered standing′ claim m k (at (d .order) q) ≡ entered standing claim m k (at (d .order) q)
-    unfolding entered
-    stays m k q l =
-        let y = ready .takens m in
-        let small = ready .small q (omega arith) in
-        let s = ready .small p h in
-        rw (others (m * 32 + at (d .order) q) (λ z.
-        let mn : m ≡ n = omega arith in
-        let same : at (d .order) q ≡ t = omega arith in
-        let qp : q ≡ p = sym (ready .once q (omega arith)) ∙ ap place same ∙ ready .once p h in
-        before mn qp l))
-      where
-        before : {m q : ℕ} → m ≡ n → q ≡ p → q < getD (d .taken) m 0 → ⊥
-        before e f l = let z : p < p = rw (e, f) at l in omega arith
+  pub node8 : n < 8
+  node8 = omega (arith, ready .nodes8)
 
-    -- t's own place counts where it claims the sheet
-    joins : (k : ℕ) → getD (d .owner) k 0 ≡ n → by (d .order) place (entered standing′ claim n k) p ≡ claims (claim-in claim t k)
-    unfolding by entered
-    joins k o =
-        rw (eq-eqb (place t) p (ready .once p h))
-        (bool (claims (claim-in claim t k)) (λ e. rw (e, set-here k o e)) (λ e. rw e (and-false (set? (getD standing′ (n * 32 + t) 0)))))
+  none-left : placed d ≤ p → (value seen w : List ℕ) → Steps (view m d value seen w) (Take n) (view m d value seen w) (Refused 9)
+  none-left l value seen w = refused (λ tally. rw (lt-ltb n (nodes d) ln, order-length m d (ready .shaped), le-ltb p (placed d) l))
 
-    abbrev Grows : ℕ → ℕ → Type 0
-    Grows k m =
-        queue-in (d .order) place standing′ claim m k (getD (set (d .taken) n (p + 1)) m 0)
-        ≡ cond (eqb m n && claims (claim-in claim t k))
-        (queue-in (d .order) place standing claim m k (getD (d .taken) m 0) ++ t ∷ [])
-        (queue-in (d .order) place standing claim m k (getD (d .taken) m 0))
+  module _ (h : p < placed d) where
+    next32 : t < 32
+    next32 = ready .small p h
 
-    before-same : (k m : ℕ) → queue-in (d .order) place standing′ claim m k (getD (d .taken) m 0) ≡ queue-in (d .order) place standing claim m k (getD (d .taken) m 0)
-    before-same k m =
-        entries-cong (d .order) (d .order) place place (entered standing′ claim m k) (entered standing claim m k) (getD (d .taken) m 0) (λ q l. refl) (λ q l. refl) (stays m k)
+    -- t's byte alone may change, and is set where t claims a sheet of node n
+    module _ (standing′ : List ℕ) (others : (j : ℕ) → j ≢ n * 32 + t → getD standing′ j 0 ≡ getD (d STANDING) j 0)
+        (set-here : (k : ℕ) → getD (d OWNER) k 0 ≡ n → claims (claim-in m (d CLAIM) t k) ≡ true → set? (getD standing′ (n * 32 + t) 0) ≡ true) where
+      -- the entries of the places before are as they were
+      stays : (o k q : ℕ) → q < getD (d TAKEN) o 0 → entered m standing′ (d CLAIM) o k (at (d ORDER) q) ≡ entered m (d STANDING) (d CLAIM) o k (at (d ORDER) q)
+      unfolding entered
+      stays o k q l =
+          let y = ready .takens o in
+          let small = ready .small q (omega arith) in
+          let s = next32 in
+          rw (others (o * 32 + at (d ORDER) q) (λ z.
+          let on : o ≡ n = omega arith in
+          let same : at (d ORDER) q ≡ t = omega arith in
+          let qp : q ≡ p = sym (ready .once q (omega arith)) ∙ ap place same ∙ ready .once p h in
+          before on qp l))
+        where
+          before : {o q : ℕ} → o ≡ n → q ≡ p → q < getD (d TAKEN) o 0 → ⊥
+          before e f l = let z : p < p = rw (e, f) at l in omega arith
 
-    grows : (k m : ℕ) → getD (d .owner) k 0 ≡ m → Grows k m
-    grows k m o =
-        same? m n
-        (λ e. subst (Grows k) (sym e)
-        (rw (getD-set-same (d .taken) n (p + 1) 0 (rw (ready .shaped .taken) n8), add-one p, eq-eqb n n refl)
-        (entries-on (d .order) place (entered standing′ claim n k) p ∙ rw (joins k (o ∙ e), before-same k n))))
-        (λ z. rw (getD-set-other (d .taken) n m (p + 1) 0 z, ne-eqb m n z) (before-same k m))
+      -- t's own place counts where it claims the sheet
+      joins : (k : ℕ) → getD (d OWNER) k 0 ≡ n → by (d ORDER) place (entered m standing′ (d CLAIM) n k) p ≡ claims (claim-in m (d CLAIM) t k)
+      unfolding by entered
+      joins k o =
+          rw (eq-eqb (place t) p (ready .once p h))
+          (bool (claims (claim-in m (d CLAIM) t k)) (λ e. rw (e, set-here k o e)) (λ e. rw e (and-false (set? (getD standing′ (n * 32 + t) 0)))))
 
-    -- the node finds t invalid, if b, and its verdict is v
-    take-steps : (value seen mark content wct failed : List ℕ) (b : Bool) (v : Verdict) → n < d .nodes → b ≡ finds-invalid (view d [] seen [] claim standing [] wct no-tally) n t
-        → verdict-of v ≡ rules.verdict b → _≡_ {A = ℕ → Bool} (λ j. set? (getD failed j 0)) (upd (λ j. set? (getD (d .failed) j 0)) t (set? (getD (d .failed) t 0) || b))
-        → Steps (view d value seen mark claim standing content wct) (Take n) (view (took d failed n) value seen mark claim standing′ content wct) (Took t v)
-    take-steps value seen mark content wct failed b v ln eb ev ef =
-        let nx : getD (take (d .placed) (d .order)) p 0 ≡ t = getD-take (d .placed) (d .order) p 0 h in
-        accepted
-        (λ tally. rw (lt-ltb n (d .nodes) ln, order-length d (ready .shaped), lt-ltb p (d .placed) h))
-        (λ tally. rw nx
-        (same-state refl refl (fun-ext (λ k. grows k (getD (d .owner) k 0) refl)) refl refl refl refl (ef ∙ rw eb) refl refl refl
-        (view-set (λ x. x) (d .taken) n (p + 1) (rw (ready .shaped .taken) n8) ∙ rw add-one) refl))
-        (λ tally. rw (nx, ev, eb))
+      abbrev Grows : ℕ → ℕ → Type 0
+      Grows k o =
+          queue-in m (d ORDER) place standing′ (d CLAIM) o k (getD (set (d TAKEN) n (p + 1)) o 0)
+          ≡ cond (eqb o n && claims (claim-in m (d CLAIM) t k))
+          (queue-in m (d ORDER) place (d STANDING) (d CLAIM) o k (getD (d TAKEN) o 0) ++ t ∷ [])
+          (queue-in m (d ORDER) place (d STANDING) (d CLAIM) o k (getD (d TAKEN) o 0))
 
-  -- the code's ends: t has no sheet here, or gets its byte and is found invalid or valid
-  module _ (claim standing : List ℕ) (n : ℕ) (n8 : n < 8) (h : getD (d .taken) n 0 < d .placed) (value seen mark content wct : List ℕ) (ln : n < d .nodes) where
-    abbrev next : ℕ
-    next = at (d .order) (getD (d .taken) n 0)
+      before-same : (k o : ℕ) → queue-in m (d ORDER) place standing′ (d CLAIM) o k (getD (d TAKEN) o 0) ≡ queue-in m (d ORDER) place (d STANDING) (d CLAIM) o k (getD (d TAKEN) o 0)
+      before-same k o =
+          entries-cong (d ORDER) (d ORDER) place place (entered m standing′ (d CLAIM) o k) (entered m (d STANDING) (d CLAIM) o k) (getD (d TAKEN) o 0) (λ q l. refl) (λ q l. refl) (stays o k)
 
-    pub take-none : Claimed (d .sheets) claim → any (d .sheets) (λ k. eqb (getD (d .owner) k 0) n && claims (claim-in claim next k)) ≡ false
-        → Steps (view d value seen mark claim standing content wct) (Take n) (view (took d (d .failed) n) value seen mark claim standing content wct) (Took next Valid)
-    take-none only none =
-        let empty = here (d .sheets) (d .owner) claim n next (ready .small (getD (d .taken) n 0) h) only none in
-        take-steps claim standing standing n n8 h (λ j z. refl) (λ k o e. absurd (empty k o e)) value seen mark content wct (d .failed) false Valid ln
-        (sym (any-fails (d .sheets) (λ k. eqb (getD (d .owner) k 0) n && fails-at (view d [] seen [] claim standing [] wct no-tally) next k)
-        (λ k l. same? (getD (d .owner) k 0) n
-        (λ o. bool (claims (claim-in claim next k)) (λ e. absurd (empty k o e)) (λ e. rw e (and-false (eqb (getD (d .owner) k 0) n))))
-        (λ z. rw (ne-eqb (getD (d .owner) k 0) n z)))))
-        refl (failed-keep (d .failed) next)
+      grows : (k o : ℕ) → getD (d OWNER) k 0 ≡ o → Grows k o
+      grows k o w =
+          same? o n
+          (λ e. subst (Grows k) (sym e)
+          (rw (getD-set-same (d TAKEN) n (p + 1) 0 (rw (ready .shaped .whole .all TAKEN) node8), add-one p, eq-eqb n n refl)
+          (entries-on (d ORDER) place (entered m standing′ (d CLAIM) n k) p ∙ rw (joins k (w ∙ e), before-same k n))))
+          (λ z. rw (getD-set-other (d TAKEN) n o (p + 1) 0 z, ne-eqb o n z) (before-same k o))
 
-    module _ (ls : length standing ≡ 256) where
-      abbrev standing′ : List ℕ
-      standing′ = set standing (n * 32 + next) 1
+      -- the node finds t invalid, if f, and its verdict is v
+      take-steps : (value seen w failed′ : List ℕ) (f : Bool) (v : Verdict) → f ≡ finds-invalid (view m d [] seen w no-tally) n t → verdict-of v ≡ rules.verdict f
+          → _≡_ {A = ℕ → Bool} (λ j. set? (getD failed′ j 0)) (upd (λ j. set? (getD (d FAILED) j 0)) t (set? (getD (d FAILED) t 0) || f))
+          → Steps (view m d value seen w) (Take n) (view m (put (put (put d STANDING standing′) TAKEN (set (d TAKEN) n (p + 1))) FAILED failed′) value seen w) (Took t v)
+      take-steps value seen w failed′ f v ef ev em =
+          let nx : getD (take (placed d) (d ORDER)) p 0 ≡ t = getD-take (placed d) (d ORDER) p 0 h in
+          accepted
+          (λ tally. rw (lt-ltb n (nodes d) ln, order-length m d (ready .shaped), lt-ltb p (placed d) h))
+          (λ tally. rw nx
+          (same-state refl refl (fun-ext (λ k. grows k (getD (d OWNER) k 0) refl)) refl refl refl refl (em ∙ rw ef) refl refl refl
+          (view-set (λ x. x) (d TAKEN) n (p + 1) (rw (ready .shaped .whole .all TAKEN) node8) ∙ rw add-one) refl))
+          (λ tally. rw (nx, ev, ef))
 
-      others : (j : ℕ) → j ≢ n * 32 + next → getD standing′ j 0 ≡ getD standing j 0
-      others j z = getD-set-other standing (n * 32 + next) j 1 0 z
+    -- the code's ends: t has no sheet here, or gets its byte and is found invalid or valid
+    take-none : any m (λ k. eqb (getD (d OWNER) k 0) n && claims (claim-in m (d CLAIM) t k)) ≡ false
+        → (value seen w : List ℕ) → Steps (view m d value seen w) (Take n) (view m (moving-on d n) value seen w) (Took t Valid)
+    take-none none value seen w =
+        let empty = here m (d OWNER) (d CLAIM) n t none in
+        take-steps (d STANDING) (λ j z. refl) (λ k o e. absurd (empty k o e)) value seen w (d FAILED) false Valid
+        (sym (any-fails m (λ k. eqb (getD (d OWNER) k 0) n && fails-at (view m d [] seen w no-tally) t k)
+        (λ k l. same? (getD (d OWNER) k 0) n
+        (λ o. bool (claims (claim-in m (d CLAIM) t k)) (λ e. absurd (empty k o e)) (λ e. rw e (and-false (eqb (getD (d OWNER) k 0) n))))
+        (λ z. rw (ne-eqb (getD (d OWNER) k 0) n z)))))
+        refl (failed-keep (d FAILED) t)
 
-      set-here : (k : ℕ) → getD (d .owner) k 0 ≡ n → claims (claim-in claim next k) ≡ true → set? (getD standing′ (n * 32 + next) 0) ≡ true
-      set-here k o e = let s = ready .small (getD (d .taken) n 0) h in rw (getD-set-same standing (n * 32 + next) 1 0 (rw ls (omega arith)))
+    abbrev standing′ : List ℕ
+    standing′ = set (d STANDING) (n * 32 + t) 1
 
-      pub take-invalid : true ≡ finds-invalid (view d [] seen [] claim standing [] wct no-tally) n next
-          → Steps (view d value seen mark claim standing content wct) (Take n) (view (took d (set (d .failed) next 1) n) value seen mark claim standing′ content wct) (Took next Invalid)
-      take-invalid e =
-          take-steps claim standing standing′ n n8 h others set-here value seen mark content wct (set (d .failed) next 1) true Invalid ln e refl (failed-set (d .failed) next (rw (ready .shaped .failed) (ready .small (getD (d .taken) n 0) h)))
+    set-here : set? (getD standing′ (n * 32 + t) 0) ≡ true
+    set-here = let s = next32 in let l = node8 in rw (getD-set-same (d STANDING) (n * 32 + t) 1 0 (rw (ready .shaped .whole .all STANDING) (omega arith)))
 
-      pub take-valid : false ≡ finds-invalid (view d [] seen [] claim standing [] wct no-tally) n next
-          → Steps (view d value seen mark claim standing content wct) (Take n) (view (took d (d .failed) n) value seen mark claim standing′ content wct) (Took next Valid)
-      take-valid e = take-steps claim standing standing′ n n8 h others set-here value seen mark content wct (d .failed) false Valid ln e refl (failed-keep (d .failed) next)
+    module _ {f : Bool} (value seen w : List ℕ) (e : f ≡ finds-invalid (view m d [] seen w no-tally) n t) where
+      take-entering : (failed′ : List ℕ) (v : Verdict) → verdict-of v ≡ rules.verdict f
+          → _≡_ {A = ℕ → Bool} (λ j. set? (getD failed′ j 0)) (upd (λ j. set? (getD (d FAILED) j 0)) t (set? (getD (d FAILED) t 0) || f))
+          → Steps (view m d value seen w) (Take n) (view m (put (entering d n t) FAILED failed′) value seen w) (Took t v)
+      take-entering failed′ v ev em = take-steps standing′ (λ j z. getD-set-other (d STANDING) (n * 32 + t) j 1 0 z) (λ k o c. set-here) value seen w failed′ f v e ev em
+
+      take-invalid : f ≡ true → Steps (view m d value seen w) (Take n) (view m (store (entering d n t) FAILED t 1) value seen w) (Took t Invalid)
+      take-invalid y = take-entering (set (d FAILED) t 1) Invalid (rw y) (rw y (failed-set (d FAILED) t (rw (ready .shaped .whole .all FAILED) next32)))
+
+      take-valid : f ≡ false → Steps (view m d value seen w) (Take n) (view m (entering d n t) value seen w) (Took t Valid)
+      take-valid y = take-entering (d FAILED) Valid (rw y) (rw y (failed-keep (d FAILED) t))
+
+-- what the code reads, and what its changes come to
+module _ {m : ℕ} {d : Parts} (ready : Ready m d) (n : ℕ) (ln : n < nodes d) {p : ℕ} (ep : p ≡ getD (d TAKEN) n 0) where
+  pub take-9 : placed d ≤ p → (seen w value : List ℕ) → Steps (view m d value seen w) (Take n) (view m d value seen w) (Refused 9)
+  take-9 l seen w value = none-left ready n ln (rw ep at l) value seen w
+
+  module _ (h : p < placed d) where
+    h′ : getD (d TAKEN) n 0 < placed d
+    h′ = rw ep at h
+
+    pub place32 : p < 32
+    place32 = omega (arith, ready .shaped .fits)
+
+    -- one more fits
+    pub more : getD (d TAKEN) n 0 < 32
+    more = omega (arith, ready .shaped .fits, h′)
+
+    pub holds-moved : Holds m d (moving-on d n)
+    holds-moved = record {
+      shaped = record { whole = whole-store (ready .shaped .whole) TAKEN n (getD (d TAKEN) n 0 + 1); fits = ready .shaped .fits };
+      hints = λ h k. record { whole = k .whole; behind = behind-moved (k .behind) n (rw (ready .shaped .whole .all TAKEN) (node8 ready n ln)); listed = k .listed };
+    }
+
+    -- whatever is stored to a byte of `standing`
+    module _ (i v : ℕ) {d₁ : Parts} (e₁ : d₁ ≡ store d STANDING i v) where
+      pub whole-standing : Whole (byte-sizes m) d₁
+      whole-standing = rw e₁ (whole-store (ready .shaped .whole) STANDING i v)
+
+      pub more-standing : getD (d₁ TAKEN) n 0 < 32
+      more-standing = rw e₁ more
+
+      pub whole-entered : {d₂ : Parts} → d₂ ≡ moving-on d₁ n → Whole (byte-sizes m) d₂
+      whole-entered e₂ = rw e₂ (whole-store whole-standing TAKEN n (getD (d₁ TAKEN) n 0 + 1))
+
+    module _ {t : ℕ} (et : t ≡ getD (d ORDER) p 0) where
+      is-next : t ≡ at (d ORDER) (getD (d TAKEN) n 0)
+      is-next = et ∙ rw ep
+
+      pub save32 : t < 32
+      save32 = rw is-next (next32 ready n ln h′)
+
+      pub moves-none : {c : Bool} → c ≡ any m (λ k. eqb (getD (d OWNER) k 0) n && claims (claim-in m (d CLAIM) t k)) → c ≡ false
+          → (seen w value : List ℕ) → Steps (view m d value seen w) (Take n) (view m (moving-on d n) value seen w) (Took t Valid)
+      moves-none ec none seen w value =
+          subst (λ (u : ℕ). Steps (view m d value seen w) (Take n) (view m (moving-on d n) value seen w) (Took u Valid)) (sym is-next)
+          (take-none ready n ln h′ (rw is-next at (sym ec ∙ none)) value seen w)
+
+      module _ {f : Bool} (seen w : List ℕ) (ef : f ≡ finds-invalid (view m d [] seen w no-tally) n t) (value : List ℕ) where
+        pub moves-invalid : f ≡ true → Steps (view m d value seen w) (Take n) (view m (store (entering d n t) FAILED t 1) value seen w) (Took t Invalid)
+        moves-invalid y =
+            subst (λ (u : ℕ). Steps (view m d value seen w) (Take n) (view m (store (entering d n u) FAILED u 1) value seen w) (Took u Invalid)) (sym is-next)
+            (take-invalid ready n ln h′ value seen w (rw is-next at ef) y)
+
+        pub moves-valid : f ≡ false → Steps (view m d value seen w) (Take n) (view m (entering d n t) value seen w) (Took t Valid)
+        moves-valid y =
+            subst (λ (u : ℕ). Steps (view m d value seen w) (Take n) (view m (entering d n u) value seen w) (Took u Valid)) (sym is-next)
+            (take-valid ready n ln h′ value seen w (rw is-next at ef) y)
+
+      entering-whole : Whole (byte-sizes m) (entering d n t)
+      entering-whole = whole-store (whole-store (ready .shaped .whole) STANDING (n * 32 + t) 1) TAKEN n (getD (d TAKEN) n 0 + 1)
+
+      entering-trimmed : Trimmed d → Trimmed (entering d n t)
+      entering-trimmed k =
+          rw is-next (behind-taken k (λ u. getD (d PLACE) u 0) (placed d) n 1 (ready .once) (ready .small) (ready .takens) h′ (rw (ready .shaped .whole .all TAKEN) (node8 ready n ln)))
+
+      pub holds-valid : Holds m d (entering d n t)
+      holds-valid = record {
+        shaped = record { whole = entering-whole; fits = ready .shaped .fits };
+        hints = λ h k. record { whole = k .whole; behind = entering-trimmed (k .behind); listed = k .listed };
+      }
+
+      pub holds-invalid : Holds m d (store (entering d n t) FAILED t 1)
+      holds-invalid = record {
+        shaped = record { whole = whole-store entering-whole FAILED t 1; fits = ready .shaped .fits };
+        hints = λ h k. record { whole = k .whole; behind = entering-trimmed (k .behind); listed = k .listed };
+      }
+
+      module _ {d₁ d₂ : Parts} (e₁ : d₁ ≡ store d STANDING (n * 32 + t) 1) (e₂ : d₂ ≡ moving-on d₁ n) where
+        pub entered-stored : d₂ ≡ entering d n t
+        entered-stored = e₂ ∙ ap (λ (x : Parts). moving-on x n) e₁
+
+        pub failed-stored : {d₃ : Parts} → d₃ ≡ store d₂ FAILED t 1 → d₃ ≡ store (entering d n t) FAILED t 1
+        failed-stored e₃ = e₃ ∙ ap (λ (x : Parts). store x FAILED t 1) entered-stored

@@ -1,2 +1,4 @@
+pub mod Lent
+pub mod Carry
 pub mod Joins
 pub mod Leaves

@@ -1,16 +1,19 @@
--- What APPLY stores at each sheet.
-use Prim.Native.Nat.{ℕ, _+_, _*_}
-use mathlib.Core.Bool.{Bool, _&&_, cond}
-use mathlib.Core.List.{List}
-use lib.ListN.{getD}
-use lib.Dec.{eqb, leb}
+-- What APPLY makes of the sheets.
+use Prim.Native.Nat.{ℕ, _≤_, _<_}
+use mathlib.Core.Path.{_≡_}
+use mathlib.Core.List.{List, []}
+use lib.ListN.{length}
+use Rattle.rules.specs.State.{Sheet}
+use Rattle.rules.specs.Steps.{apply-save}
+use Rattle.state.specs.Parts.{Parts, CONTENT, WCT}
+use Rattle.state.specs.View.{flat, view, no-tally}
 
--- sheet k receives save t's content at node n
-abbrev pub gets : (owner phase mark : List ℕ) → (n t k : ℕ) → Bool
-gets owner phase mark n t k = eqb (getD owner k 0) n && (eqb (getD phase t 0) 4 && leb 2 (getD mark (t * 64 + k) 0))
+-- sheet k, as the table shows it
+abbrev pub sheet-in : ℕ → List ℕ → ℕ → Sheet
+sheet-in m w k = record { content = flat m w CONTENT k; wct = flat m w WCT k }
 
-abbrev pub contents : (owner phase value mark content : List ℕ) → (n t k : ℕ) → ℕ
-contents owner phase value mark content n t k = cond (gets owner phase mark n t k) (getD value (t * 64 + k) 0) (getD content k 0)
-
-abbrev pub wcts : (owner phase mark wct : List ℕ) → (n t k : ℕ) → ℕ
-wcts owner phase mark wct n t k = cond (gets owner phase mark n t k) (getD wct k 0 + 1) (getD wct k 0)
+-- the first k sheets are as APPLY of save t at node n leaves them, the others as they were
+pub record Applied (m : ℕ) (d : Parts) (value : List ℕ) (n t : ℕ) (w : List ℕ) (k : ℕ) (w′ : List ℕ) : Type 0 where
+  pub size : length w′ ≡ length w
+  pub done : (j : ℕ) → j < k → sheet-in m w′ j ≡ apply-save (view m d value [] w no-tally) n t .sheet j
+  pub others : (j : ℕ) → k ≤ j → sheet-in m w′ j ≡ sheet-in m w j

@@ -12,17 +12,18 @@ use lib.Dec.{ltb, leb, eqb}
 use borrow.Author.Tests.{lt-ltb, le-ltb, ltb-true, ltb-false, eq-eqb, ne-eqb, le-leb}
 use Rattle.rules.specs.Steps.{mem, holds, before, empty, at-front, x-on, granted-as}
 use Rattle.rules.proofs.Places.{at, by, entries}
-use Rattle.state.specs.View.{set?, as-claim, flat, claim-in, entered, queue-in}
-use Rattle.state.specs.Ready.{Once}
 use Rattle.rules.proofs.Table.{bool, same?}
+use Rattle.state.specs.Parts.{Parts, CLAIM, STANDING, OWNER, ORDER, PLACE, TAKEN}
+use Rattle.state.specs.View.{set?, as-claim, flat, claim-in, entered, queue-in}
+use Rattle.state.specs.Ready.{Once, Ready}
 use Rattle.state.proofs.Codes.{claims-code, is-x-code}
 use Rattle.state.proofs.Stores.{flat-in}
-use Rattle.queues.specs.Walk.{halts, stop, least-of, Walk}
+use Rattle.queues.specs.Walk.{halts, stop, walked, least-of}
 
 -- ---- The walk as a loop makes it
 
 module _ (a : ℕ → ℕ) (h : ℕ → Bool) (q upto : ℕ) where
-  pub stop-here : q < upto → h (a q) ≡ true → stop a h q (upto - q) ≡ q
+  pub stop-here : q < upto → h (a q) ≡ true → stop a h q (upto - q) ≡ a q
   unfolding stop
   stop-here l e = let z : upto - q ≡ suc (upto - (q + 1)) = omega arith in rw (z, e)
 
@@ -30,7 +31,7 @@ module _ (a : ℕ → ℕ) (h : ℕ → Bool) (q upto : ℕ) where
   unfolding stop
   stop-on l e = let z : upto - q ≡ suc (upto - (q + 1)) = omega arith in rw (z, e, add-one q)
 
-  pub stop-end : upto ≤ q → stop a h q (upto - q) ≡ q
+  pub stop-end : upto ≤ q → stop a h q (upto - q) ≡ 32
   unfolding stop
   stop-end l = let z : upto - q ≡ 0 = omega arith in rw z
 
@@ -40,136 +41,170 @@ stop-skip a h upto zero l e = rw sub-zero
 stop-skip a h upto (suc g) l e =
     stop-skip a h upto g (omega arith) (λ q m. e q (omega arith)) ∙ (rw (add-one g) at (stop-on a h g upto (omega arith) (e g (omega arith))))
 
-stop-cong : (a : ℕ → ℕ) (h g : ℕ → Bool) (q m : ℕ) → ((p : ℕ) → p < q + m → h (a p) ≡ g (a p)) → stop a h q m ≡ stop a g q m
+stop-cong : (a : ℕ → ℕ) (h g : ℕ → Bool) (q p : ℕ) → ((i : ℕ) → i < q + p → h (a i) ≡ g (a i)) → stop a h q p ≡ stop a g q p
 unfolding stop
 stop-cong a h g q zero e = refl
-stop-cong a h g q (suc m) e = rw (e q (omega arith), stop-cong a h g (suc q) m (λ p l. e p (omega arith)))
+stop-cong a h g q (suc p) e = rw (e q (omega arith), stop-cong a h g (suc q) p (λ i l. e i (omega arith)))
+
+-- the places' saves are rows
+abbrev Rows : (ℕ → ℕ) → ℕ → Type 0
+Rows a upto = (i : ℕ) → i < upto → a i < 32
+
+stop-small : (a : ℕ → ℕ) (h : ℕ → Bool) (q p : ℕ) → Rows a (q + p) → stop a h q p ≤ 32
+unfolding stop
+stop-small a h q zero s = le-refl 32
+stop-small a h q (suc p) s =
+    bool (h (a q)) (λ e. rw e (omega (arith, s q (omega arith)))) (λ e. rw e (stop-small a h (suc q) p (λ i l. s i (omega arith))))
 
 -- ---- A queue from its front
 
 unfoldable onward : (ℕ → ℕ) → (ℕ → Bool) → ℕ → ℕ → List ℕ
 onward a f q zero = []
-onward a f q (suc m) = cond (f (a q)) (a q ∷ onward a f (suc q) m) (onward a f (suc q) m)
+onward a f q (suc p) = cond (f (a q)) (a q ∷ onward a f (suc q) p) (onward a f (suc q) p)
 
-onward-last : (a : ℕ → ℕ) (f : ℕ → Bool) (q m : ℕ) → onward a f q (suc m) ≡ cond (f (a (q + m))) (onward a f q m ++ a (q + m) ∷ []) (onward a f q m)
+onward-last : (a : ℕ → ℕ) (f : ℕ → Bool) (q p : ℕ) → onward a f q (suc p) ≡ cond (f (a (q + p))) (onward a f q p ++ a (q + p) ∷ []) (onward a f q p)
 unfolding onward
 onward-last a f q zero = rw add-zero
-onward-last a f q (suc m) =
-    let e : q + suc m ≡ suc q + m = omega arith in
-    rw (onward-last a f (suc q) m, e)
-    (bool (f (a q)) (λ z. rw z (bool (f (a (suc q + m))) (λ r. rw r) (λ r. rw r))) (λ z. rw z (bool (f (a (suc q + m))) (λ r. rw r) (λ r. rw r))))
+onward-last a f q (suc p) =
+    let e : q + suc p ≡ suc q + p = omega arith in
+    rw (onward-last a f (suc q) p, e)
+    (bool (f (a q)) (λ z. rw z (bool (f (a (suc q + p))) (λ r. rw r) (λ r. rw r))) (λ z. rw z (bool (f (a (suc q + p))) (λ r. rw r) (λ r. rw r))))
 
 -- each save has one place: every place counts
 by-once : (order : List ℕ) (place : ℕ → ℕ) (f : ℕ → Bool) (q : ℕ) → place (at order q) ≡ q → by order place f q ≡ f (at order q)
 unfolding by
 by-once order place f q e = rw (eq-eqb (place (at order q)) q e)
 
-entries-onward : (order : List ℕ) (place : ℕ → ℕ) (f : ℕ → Bool) (m : ℕ) → Once order place m → entries order place f m ≡ onward (at order) f 0 m
+entries-onward : (order : List ℕ) (place : ℕ → ℕ) (f : ℕ → Bool) (p : ℕ) → Once order place p → entries order place f p ≡ onward (at order) f 0 p
 unfolding entries onward
 entries-onward order place f zero o = refl
-entries-onward order place f (suc m) o =
-    rw (by-once order place f m (o m (le-refl (suc m))), entries-onward order place f m (λ q l. o q (omega arith)), onward-last (at order) f 0 m, zero-add m)
+entries-onward order place f (suc p) o =
+    rw (by-once order place f p (o p (le-refl (suc p))), entries-onward order place f p (λ q l. o q (omega arith)), onward-last (at order) f 0 p, zero-add p)
 
 module _ (a : ℕ → ℕ) (f : ℕ → Bool) where
   -- an entry passes x
-  stop-holds : (x : ℕ → Bool) (q m : ℕ) → holds x (onward a f q m) ≡ ltb (stop a (λ u. f u && x u) q m) (q + m)
+  stop-holds : (x : ℕ → Bool) (q p : ℕ) → Rows a (q + p) → holds x (onward a f q p) ≡ not (eqb (stop a (λ u. f u && x u) q p) 32)
   unfolding onward stop
-  stop-holds x q zero = rw (le-ltb q (q + 0) (omega arith))
-  stop-holds x q (suc m) =
-      let s : q + suc m ≡ suc q + m = omega arith in
+  stop-holds x q zero s = refl
+  stop-holds x q (suc p) s =
+      let ih = stop-holds x (suc q) p (λ i l. s i (omega arith)) in
       bool (f (a q))
-      (λ e. bool (x (a q)) (λ r. rw (e, r, lt-ltb q (q + suc m) (omega arith))) (λ r. rw (e, r, s) (stop-holds x (suc q) m)))
-      (λ e. rw (e, s) (stop-holds x (suc q) m))
+      (λ e. bool (x (a q)) (λ r. rw (e, r, ne-eqb (a q) 32 (λ z. omega (arith, s q (omega arith))))) (λ r. rw (e, r) ih))
+      (λ e. rw e ih)
 
   -- the first entry passes x
-  stop-front : (x : ℕ → Bool) (q m : ℕ) → at-front x (onward a f q m) ≡ (ltb (stop a f q m) (q + m) && x (a (stop a f q m)))
+  stop-front : (x : ℕ → Bool) (q p : ℕ) → Rows a (q + p) → at-front x (onward a f q p) ≡ (not (eqb (stop a f q p) 32) && x (stop a f q p))
   unfolding onward stop
-  stop-front x q zero = rw (le-ltb q (q + 0) (omega arith))
-  stop-front x q (suc m) =
-      let s : q + suc m ≡ suc q + m = omega arith in
-      bool (f (a q)) (λ e. rw (e, lt-ltb q (q + suc m) (omega arith))) (λ e. rw (e, s) (stop-front x (suc q) m))
+  stop-front x q zero s = refl
+  stop-front x q (suc p) s =
+      bool (f (a q)) (λ e. rw (e, ne-eqb (a q) 32 (λ z. omega (arith, s q (omega arith))))) (λ e. rw e (stop-front x (suc q) p (λ i l. s i (omega arith))))
 
   -- no entry before t's passes x: the walk to the first that is t or passes x ends at none or at t
-  stop-before : (x : ℕ → Bool) (t q m : ℕ)
-      → not (holds x (before t (onward a f q m))) ≡ (not (ltb (stop a (λ u. f u && (eqb u t || x u)) q m) (q + m)) || eqb (a (stop a (λ u. f u && (eqb u t || x u)) q m)) t)
+  stop-before : (x : ℕ → Bool) (t q p : ℕ) → Rows a (q + p)
+      → not (holds x (before t (onward a f q p))) ≡ (eqb (stop a (λ u. f u && (eqb u t || x u)) q p) 32 || eqb (stop a (λ u. f u && (eqb u t || x u)) q p) t)
   unfolding onward stop
-  stop-before x t q zero = rw (le-ltb q (q + 0) (omega arith))
-  stop-before x t q (suc m) =
-      let s : q + suc m ≡ suc q + m = omega arith in
+  stop-before x t q zero s = refl
+  stop-before x t q (suc p) s =
+      let ih = stop-before x t (suc q) p (λ i l. s i (omega arith)) in
       bool (f (a q))
       (λ e. bool (eqb (a q) t)
-      (λ z. rw (e, z, lt-ltb q (q + suc m) (omega arith), z))
+      (λ z. rw (e, z, z) (sym (or-true (eqb (a q) 32))))
       (λ z. bool (x (a q))
-      (λ r. rw (e, z, r, lt-ltb q (q + suc m) (omega arith), z))
-      (λ r. rw (e, z, r, s) (stop-before x t (suc q) m))))
-      (λ e. rw (e, s) (stop-before x t (suc q) m))
+      (λ r. rw (e, z, r, ne-eqb (a q) 32 (λ y. omega (arith, s q (omega arith))), z))
+      (λ r. rw (e, z, r) ih)))
+      (λ e. rw e ih)
 
 empty-none : (l : List ℕ) → empty l ≡ not (holds (λ u. true) l)
 empty-none [] = refl
 empty-none (u ∷ l) = refl
 
--- ---- The queue of sheet k of node n
+-- ---- The queue of sheet k
 
-module _ (order : List ℕ) (place : ℕ → ℕ) (standing claim : List ℕ) (n k upto : ℕ) (w : Walk order n k upto) (once : Once order place upto) where
-  abbrev walk : ℕ → ℕ → ℕ
-  walk t least = stop (at order) (halts standing claim n k t least) 0 upto
+module _ {m : ℕ} {d : Parts} (ready : Ready m d) {k : ℕ} (km : k < m) where
+  abbrev n : ℕ
+  n = getD (d OWNER) k 0
+
+  abbrev upto : ℕ
+  upto = getD (d TAKEN) n 0
+
+  abbrev place : ℕ → ℕ
+  place t = getD (d PLACE) t 0
+
+  -- save u has an entry
+  abbrev is-in : ℕ → Bool
+  is-in = entered m (d STANDING) (d CLAIM) n k
 
   abbrev queue : List ℕ
-  queue = queue-in order place standing claim n k upto
+  queue = queue-in m (d ORDER) place (d STANDING) (d CLAIM) n k upto
 
-  halts-at : (t least u : ℕ) → halts standing claim n k t least u ≡ (entered standing claim n k u && (eqb u t || leb least (flat claim u k)))
+  abbrev x : ℕ → Bool
+  x = x-on (claim-in m (d CLAIM)) k
+
+  small : Rows (at (d ORDER)) (0 + upto)
+  small q l = ready .small q (omega (arith, ready .takens n))
+
+  queue-onward : queue ≡ onward (at (d ORDER)) is-in 0 upto
+  queue-onward = entries-onward (d ORDER) place is-in upto (λ q l. ready .once q (omega (arith, ready .takens n)))
+
+  pub walked-small : (t least : ℕ) → walked m d k t least ≤ 32
+  walked-small t least = stop-small (at (d ORDER)) (halts m d n k t least) 0 upto small
+
+  halts-at : (t least u : ℕ) → halts m d n k t least u ≡ (is-in u && (eqb u t || leb least (flat m (d CLAIM) u k)))
   unfolding entered
   halts-at t least u =
-      rw (flat-in claim u k (w .sheet), claims-code (getD claim (u * 64 + k) 0))
-      (joined (set? (getD standing (n * 32 + u) 0)) (set? (getD claim (u * 64 + k) 0)) (eqb u t || leb least (getD claim (u * 64 + k) 0)))
+      rw (flat-in m (d CLAIM) u k km, claims-code (getD (d CLAIM) (u * m + k) 0))
+      (joined (set? (getD (d STANDING) (n * 32 + u) 0)) (set? (getD (d CLAIM) (u * m + k) 0)) (eqb u t || leb least (getD (d CLAIM) (u * m + k) 0)))
     where
       joined : (a b c : Bool) → a && (b && c) ≡ (a && b) && c
       joined true b c = refl
       joined false b c = refl
 
-  -- the walk's test by what it asks of an entry
-  walks : (t least : ℕ) (x : ℕ → Bool) → ((u : ℕ) → u < 32 → (eqb u t || leb least (flat claim u k)) ≡ x u)
-      → walk t least ≡ stop (at order) (λ u. entered standing claim n k u && x u) 0 upto
-  walks t least x e =
-      stop-cong (at order) (halts standing claim n k t least) (λ u. entered standing claim n k u && x u) 0 upto
-      (λ p l. rw (halts-at t least (at order p), e (at order p) (w .small p (omega arith))))
+  -- the walk by what it asks of an entry
+  walks : (t least : ℕ) (f : ℕ → Bool) → ((u : ℕ) → u < 32 → (is-in u && (eqb u t || leb least (flat m (d CLAIM) u k))) ≡ f u)
+      → walked m d k t least ≡ stop (at (d ORDER)) f 0 upto
+  walks t least f e =
+      stop-cong (at (d ORDER)) (halts m d n k t least) f 0 upto
+      (λ i l. rw (halts-at t least (at (d ORDER) i), e (at (d ORDER) i) (small i (omega arith))))
 
   -- entry u is an X
-  x-code : (u : ℕ) → x-on (claim-in claim) k u ≡ leb 2 (flat claim u k)
+  x-code : (u : ℕ) → x u ≡ leb 2 (flat m (d CLAIM) u k)
   unfolding x-on
-  x-code u = is-x-code (flat claim u k)
+  x-code u = is-x-code (flat m (d CLAIM) u k)
 
-  pub queue-holds-x : holds (x-on (claim-in claim) k) queue ≡ ltb (walk 32 2) upto
-  queue-holds-x =
-      rw (entries-onward order place (entered standing claim n k) upto once)
-      (stop-holds (at order) (entered standing claim n k) (x-on (claim-in claim) k) 0 upto
-      ∙ rw (zero-add upto, walks 32 2 (x-on (claim-in claim) k) (λ u l. rw (ne-eqb u 32 (λ e. omega arith)) (sym (x-code u)))))
+  -- an entry claims S or more
+  some-claim : (u : ℕ) (z : Bool) → (is-in u && (z || leb 1 (flat m (d CLAIM) u k))) ≡ is-in u
+  unfolding entered
+  some-claim u z = rw (claims-code (flat m (d CLAIM) u k)) (bool (set? (getD (d STANDING) (n * 32 + u) 0)) (λ e. rw e (by-claim (flat m (d CLAIM) u k))) (λ e. rw e))
+    where
+      by-claim : (c : ℕ) → (set? c && (z || leb 1 c)) ≡ set? c
+      by-claim zero = refl
+      by-claim (suc c) = rw (le-leb 1 (suc c) (omega arith), or-true z) (and-true (set? (suc c)))
 
-  pub queue-front-x : at-front (x-on (claim-in claim) k) queue ≡ (ltb (walk 32 0) upto && leb 2 (getD claim (at order (walk 32 0) * 64 + k) 0))
-  queue-front-x =
-      let e : walk 32 0 ≡ stop (at order) (entered standing claim n k) 0 upto =
-      walks 32 0 (λ u. true) (λ u l. rw (le-leb 0 (flat claim u k) zero-le) (or-true (eqb u 32)))
-      ∙ stop-cong (at order) (λ u. entered standing claim n k u && true) (entered standing claim n k) 0 upto (λ p l. and-true (entered standing claim n k (at order p))) in
-      rw (entries-onward order place (entered standing claim n k) upto once, ← flat-in claim (at order (walk 32 0)) k (w .sheet), ← x-code (at order (walk 32 0)), e)
-      (stop-front (at order) (entered standing claim n k) (x-on (claim-in claim) k) 0 upto ∙ rw (zero-add upto))
+  pub queue-holds-x : {u : ℕ} → u ≡ walked m d k 32 2 → holds x queue ≡ not (eqb u 32)
+  queue-holds-x eu =
+      rw (eu, queue-onward, walks 32 2 (λ u. is-in u && x u) (λ u l. rw (ne-eqb u 32 (λ e. omega arith), x-code u)))
+      (stop-holds (at (d ORDER)) is-in x 0 upto small)
 
-  before-by : (t least : ℕ) (x : ℕ → Bool) → ((u : ℕ) → leb least (flat claim u k) ≡ x u)
-      → not (holds x (before t queue)) ≡ (not (ltb (walk t least) upto) || eqb (at order (walk t least)) t)
-  before-by t least x e =
-      rw (entries-onward order place (entered standing claim n k) upto once, walks t least (λ u. eqb u t || x u) (λ u l. rw (e u)))
-      (stop-before (at order) (entered standing claim n k) x t 0 upto ∙ rw (zero-add upto))
+  pub queue-front-x : {u c : ℕ} → u ≡ walked m d k 32 1 → c ≡ getD (d CLAIM) (u * m + k) 0 → at-front x queue ≡ (not (eqb u 32) && leb 2 c)
+  queue-front-x {u} eu ec =
+      rw (ec, ← flat-in m (d CLAIM) u k km, ← x-code u, eu, queue-onward, walks 32 1 is-in (λ u l. some-claim u (eqb u 32)))
+      (stop-front (at (d ORDER)) is-in x 0 upto small)
 
-  granted-code : (t c : ℕ) → granted-as (as-claim c) (x-on (claim-in claim) k) (before t queue)
-      ≡ (eqb c 0 || (not (ltb (walk t (least-of c)) upto) || eqb (at order (walk t (least-of c))) t))
+  before-by : (t least : ℕ) (f : ℕ → Bool) → ((u : ℕ) → (is-in u && (eqb u t || leb least (flat m (d CLAIM) u k))) ≡ (is-in u && (eqb u t || f u)))
+      → not (holds f (before t queue)) ≡ (eqb (walked m d k t least) 32 || eqb (walked m d k t least) t)
+  before-by t least f e =
+      rw (queue-onward, walks t least (λ u. is-in u && (eqb u t || f u)) (λ u l. e u)) (stop-before (at (d ORDER)) is-in f t 0 upto small)
+
+  granted-code : (t c : ℕ) → granted-as (as-claim c) x (before t queue) ≡ (eqb c 0 || (eqb (walked m d k t (least-of c)) 32 || eqb (walked m d k t (least-of c)) t))
   granted-code t zero = refl
-  granted-code t (suc zero) = before-by t 2 (x-on (claim-in claim) k) (λ u. sym (x-code u))
+  granted-code t (suc zero) = before-by t 2 x (λ u. rw (x-code u))
   granted-code t (suc (suc c)) =
       rw (ne-eqb (suc (suc c)) 0 (λ e. omega arith), le-leb 2 (suc (suc c)) (omega arith), empty-none (before t queue))
-      (before-by t 0 (λ u. true) (λ u. le-leb 0 (flat claim u k) zero-le))
+      (before-by t 1 (λ u. true) (λ u. some-claim u (eqb u t) ∙ sym (rw (or-true (eqb u t)) (and-true (is-in u)))))
 
-  pub queue-granted : (t : ℕ) → granted-as (claim-in claim t k) (x-on (claim-in claim) k) (before t queue)
-      ≡ (eqb (getD claim (t * 64 + k) 0) 0 || (not (ltb (walk t (least-of (getD claim (t * 64 + k) 0))) upto) || eqb (at order (walk t (least-of (getD claim (t * 64 + k) 0)))) t))
-  queue-granted t = rw (flat-in claim t k (w .sheet)) (granted-code t (getD claim (t * 64 + k) 0))
+  pub queue-granted : (t : ℕ) {c l u : ℕ} → c ≡ getD (d CLAIM) (t * m + k) 0 → l ≡ least-of c → u ≡ walked m d k t l
+      → granted-as (claim-in m (d CLAIM) t k) x (before t queue) ≡ (eqb c 0 || (eqb u 32 || eqb u t))
+  queue-granted t ec el eu = rw (eu, el, ec, flat-in m (d CLAIM) t k km) (granted-code t (getD (d CLAIM) (t * m + k) 0))
 
 -- ---- A save's entry
 
@@ -177,34 +212,34 @@ mem-end : (t : ℕ) (l : List ℕ) (u : ℕ) → mem t (l ++ u ∷ []) ≡ (mem 
 mem-end t [] u = bool (eqb u t) (λ e. rw e) (λ e. rw e)
 mem-end t (x ∷ l) u = rw (mem-end t l u) (bool (eqb x t) (λ e. rw e) (λ e. rw e))
 
--- t stands among the entries: it passes their test, and its place is one of the first m
-pub entries-mem : (order : List ℕ) (place : ℕ → ℕ) (f : ℕ → Bool) (t m : ℕ) → Once order place m
-    → mem t (entries order place f m) ≡ (f t && (ltb (place t) m && eqb (at order (place t)) t))
+-- t stands among the entries: it passes their test, and its place is one of the first p
+pub entries-mem : (order : List ℕ) (place : ℕ → ℕ) (f : ℕ → Bool) (t p : ℕ) → Once order place p
+    → mem t (entries order place f p) ≡ (f t && (ltb (place t) p && eqb (at order (place t)) t))
 unfolding entries
 entries-mem order place f t zero o = rw (le-ltb (place t) 0 zero-le) (sym (and-false (f t)))
-entries-mem order place f t (suc m) o =
-    let ih = entries-mem order place f t m (λ q l. o q (omega arith)) in
-    let om = o m (le-refl (suc m)) in
-    rw (by-once order place f m om)
-    (same? (at order m) t
-    (λ e. let pt : place t ≡ m = rw e at om in
+entries-mem order place f t (suc p) o =
+    let ih = entries-mem order place f t p (λ q l. o q (omega arith)) in
+    let op = o p (le-refl (suc p)) in
+    rw (by-once order place f p op)
+    (same? (at order p) t
+    (λ e. let pt : place t ≡ p = rw e at op in
     bool (f t)
-    (λ y. rw (e, y, mem-end t (entries order place f m) t, eq-eqb t t refl, pt, e, eq-eqb t t refl, lt-ltb m (suc m) (omega arith)) (or-true (mem t (entries order place f m))))
+    (λ y. rw (e, y, mem-end t (entries order place f p) t, eq-eqb t t refl, pt, e, eq-eqb t t refl, lt-ltb p (suc p) (omega arith)) (or-true (mem t (entries order place f p))))
     (λ y. rw (e, y) (ih ∙ rw y)))
-    (λ z. rw (others (at order m) (ne-eqb (at order m) t z) (f (at order m)) (entries order place f m)) (ih ∙ ap (λ b. f t && b) (one-more z))))
+    (λ z. rw (others (at order p) (ne-eqb (at order p) t z) (f (at order p)) (entries order place f p)) (ih ∙ ap (λ b. f t && b) (one-more z))))
   where
     others : (u : ℕ) → eqb u t ≡ false → (b : Bool) (l : List ℕ) → mem t (cond b (l ++ u ∷ []) l) ≡ mem t l
     others u e true l = rw (mem-end t l u, e) (bool (mem t l) (λ r. rw r) (λ r. rw r))
     others u e false l = refl
 
-    one-more : at order m ≢ t → (ltb (place t) m && eqb (at order (place t)) t) ≡ (ltb (place t) (suc m) && eqb (at order (place t)) t)
+    one-more : at order p ≢ t → (ltb (place t) p && eqb (at order (place t)) t) ≡ (ltb (place t) (suc p) && eqb (at order (place t)) t)
     one-more z =
-        same? (place t) m
-        (λ e. rw (e, ne-eqb (at order m) t z, le-ltb m m (le-refl m), lt-ltb m (suc m) (omega arith)))
-        (λ n. bool (ltb (place t) m) (λ b. rw (b, lt-ltb (place t) (suc m) (later b))) (λ b. rw (b, le-ltb (place t) (suc m) (not-later n b))))
+        same? (place t) p
+        (λ e. rw (e, ne-eqb (at order p) t z, le-ltb p p (le-refl p), lt-ltb p (suc p) (omega arith)))
+        (λ n. bool (ltb (place t) p) (λ b. rw (b, lt-ltb (place t) (suc p) (later b))) (λ b. rw (b, le-ltb (place t) (suc p) (not-later n b))))
       where
-        later : ltb (place t) m ≡ true → place t < suc m
-        later b = let l = ltb-true (place t) m b in omega arith
+        later : ltb (place t) p ≡ true → place t < suc p
+        later b = let l = ltb-true (place t) p b in omega arith
 
-        not-later : place t ≢ m → ltb (place t) m ≡ false → suc m ≤ place t
-        not-later n b = let l = ltb-false (place t) m b in same? (place t) m (λ e. absurd (n e)) (λ _. omega arith)
+        not-later : place t ≢ p → ltb (place t) p ≡ false → suc p ≤ place t
+        not-later n b = let l = ltb-false (place t) p b in same? (place t) p (λ e. absurd (n e)) (λ _. omega arith)

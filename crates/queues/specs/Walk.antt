@@ -1,32 +1,29 @@
 -- The walk over the places of the order that stands for a queue.
-use Prim.Native.Nat.{ℕ, zero, suc, _+_, _*_, _≤_, _<_}
+use Prim.Native.Nat.{ℕ, zero, suc, _+_, _*_}
 use mathlib.Core.Bool.{Bool, _&&_, _||_, cond}
-use mathlib.Core.List.{List}
 use lib.ListN.{getD}
 use lib.Dec.{eqb, leb}
+use Rattle.rules.proofs.Places.{at}
 use Rattle.state.specs.View.{set?}
-use Rattle.state.specs.Ready.{Small}
+use Rattle.state.specs.Parts.{Parts, CLAIM, STANDING, OWNER, ORDER, TAKEN}
 
 -- an entry (e) of save u with claim c stops the walk: u is t, or c is `least` or more
 abbrev pub halt-of : (e c u t least : ℕ) → Bool
 halt-of e c u t least = set? e && (set? c && (eqb u t || leb least c))
 
--- at save u
-abbrev pub halts : (standing claim : List ℕ) → (n k t least u : ℕ) → Bool
-halts standing claim n k t least u = halt-of (getD standing (n * 32 + u) 0) (getD claim (u * 64 + k) 0) u t least
+-- at save u, for sheet k of node n
+abbrev pub halts : ℕ → Parts → (n k t least u : ℕ) → Bool
+halts m d n k t least u = halt-of (getD (d STANDING) (n * 32 + u) 0) (getD (d CLAIM) (u * m + k) 0) u t least
 
--- the first of m places from q on whose save passes the test, else the place after them
-unfoldable pub stop : (save : ℕ → ℕ) → (ℕ → Bool) → (q m : ℕ) → ℕ
-stop save h q zero = q
-stop save h q (suc m) = cond (h (save q)) q (stop save h (suc q) m)
+-- the first save at one of p places from q on that passes the test, else 32, which is no save
+unfoldable pub stop : (save : ℕ → ℕ) → (ℕ → Bool) → (q p : ℕ) → ℕ
+stop save h q zero = 32
+stop save h q (suc p) = cond (h (save q)) (save q) (stop save h (suc q) p)
+
+-- the walk over the places that sheet k's owner has taken
+abbrev pub walked : ℕ → Parts → (k t least : ℕ) → ℕ
+walked m d k t least = stop (at (d ORDER)) (halts m d (getD (d OWNER) k 0) k t least) 0 (getD (d TAKEN) (getD (d OWNER) k 0) 0)
 
 -- the least claim that stands in the way of claim c
 abbrev pub least-of : ℕ → ℕ
-least-of c = cond (leb 2 c) 0 2
-
--- what a walk asks: its indices are in the tables
-pub record Walk (order : List ℕ) (n k upto : ℕ) : Type 0 where
-  pub node : n < 8
-  pub sheet : k < 64
-  pub places : upto ≤ 32
-  pub small : Small order upto
+least-of c = cond (leb 2 c) 1 2

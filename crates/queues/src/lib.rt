@@ -1,16 +1,19 @@
 // The tests that the commands make of queues. A queue is not stored: its entries are the saves at the places that its node has taken,
 // with their byte in `standing` set and a claim on the sheet. One walk over those places answers every test; it starts past the places that
 // have no entry any more.
-ghost use Prim.Native.Nat.{ℕ, _≤_, _<_};
+ghost use Prim.Native.Nat.{_<_};
 ghost use mathlib.Core.Path.{_≡_};
-ghost use Rattle.rules.specs.Steps.{holds, at-front, before, x-on, granted-as};
-ghost use Rattle.rules.proofs.Places.{at};
-ghost use Rattle.state.specs.View.{claim-in, queue-in};
-ghost use Rattle.state.specs.Ready.{Once, Gone};
-ghost use Rattle.queues.specs.Walk.{halt-of, halts, stop, least-of, Walk};
+ghost use Rattle.rules.specs.Steps.{holds, at-front, x-on, granted};
+ghost use Rattle.state.specs.Parts.{bytes};
+ghost use Rattle.state.specs.Ready.{Ready, Trimmed};
+ghost use Rattle.state.specs.Lent.{own, seen-by};
+ghost use Rattle.queues.specs.Walk.{halt-of, walked, least-of};
+use state::EXCLUSIVE;
+use state::SHARED;
 use state::Session;
+use state::UNCLAIMED;
 
-// No save: a walk that is given it stops only by claims.
+// No save: a walk that is given it stops only by claims, and one that finds none answers it.
 const NO_SAVE: u8 = Session::SAVE_NUMBERS;
 
 // An entry (e) of save u with claim c stops the walk: u is t, or c is `least` or more.
@@ -20,7 +23,7 @@ fn halt(e: u8, c: u8, u: u8, t: u8, least: u8) -> bool
     if e == 0 {
         return false;
     }
-    if c == 0 {
+    if c == UNCLAIMED {
         return false;
     }
     if u == t {
@@ -29,109 +32,73 @@ fn halt(e: u8, c: u8, u: u8, t: u8, least: u8) -> bool
     least <= c
 }
 
-// The first of the first `upto` places whose save has an entry at sheet k of node n, and is t or claims `least` or more; upto if there is none.
-// The places before `from` have no entry.
-fn first(
-    order: &[u8; Session::SAVES],
-    standing: &[u8; Session::STANDING],
-    claim: &[u8; Session::COPIES],
-    n: usize,
-    k: usize,
-    from: usize,
-    upto: usize,
-    t: u8,
-    least: u8,
-) -> usize
-    requires { ⌜ Walk (now order) n k upto × (from ≤ upto) × Gone (now order) (now standing) n from ⌝ }
-    ensures { λ r. ⌜ r ≡ stop (at (now (order .entry))) (halts (now (standing .entry)) (now (claim .entry)) n k t least) 0 upto ⌝ }
+// The first save in sheet k's queue that is t or claims `least` or more; NO_SAVE if there is none.
+fn first(b: &[u8], m: usize, k: usize, t: u8, least: u8) -> u8
+    requires { ⌜ Ready m (bytes m (now b)) × Trimmed (bytes m (now b)) × (k < m) ⌝ }
+    ensures { λ r. ⌜ r ≡ walked m (bytes m (now (b .entry))) k t least ⌝ }
 {
-    let mut q = from;
+    let n = state::owner(b, m, k) as usize;
+    let upto = state::taken(b, m, n) as usize;
+    let mut q = state::gone(b, m, n) as usize;
     while q < upto {
-        let u = order[q];
+        let u = state::order(b, m, q);
         let ui = u as usize;
-        let e = standing[n * Session::SAVES + ui];
-        let c = claim[ui * Session::SHEETS + k];
+        let e = state::standing(b, m, n, ui);
+        let c = state::claim(b, m, ui, k);
         let h = halt(e, c, u, t, least);
         if h {
-            return q;
+            return u;
         }
         q += 1;
     }
-    q
+    NO_SAVE
 }
 
 // The queue of sheet k holds an X.
-pub fn holds_x(
-    order: &[u8; Session::SAVES],
-    standing: &[u8; Session::STANDING],
-    claim: &[u8; Session::COPIES],
-    n: usize,
-    k: usize,
-    from: usize,
-    upto: usize,
-) -> bool
-    requires { ⌜ Walk (now order) n k upto × (from ≤ upto) × Gone (now order) (now standing) n from ⌝ }
-    ensures { λ r. ⌜ ((place : ℕ → ℕ) → Once (now (order .entry)) place upto → r ≡ holds (x-on (claim-in (now (claim .entry))) k) (queue-in (now (order .entry)) place (now (standing .entry)) (now (claim .entry)) n k upto)) ⌝ }
+pub fn holds_x(b: &[u8], m: usize, k: usize) -> bool
+    requires { ⌜ Ready m (bytes m (now b)) × Trimmed (bytes m (now b)) × (k < m) ⌝ }
+    ensures { λ r. ⌜ r ≡ holds (x-on (seen-by m (own (now (b .entry))) .claim) k) (seen-by m (own (now (b .entry))) .queue k) ⌝ }
 {
-    let q = first(order, standing, claim, n, k, from, upto, NO_SAVE, 2);
-    q < upto
+    let u = first(b, m, k, NO_SAVE, EXCLUSIVE);
+    u != NO_SAVE
 }
 
 // The front entry of sheet k's queue is an X.
-pub fn front_x(
-    order: &[u8; Session::SAVES],
-    standing: &[u8; Session::STANDING],
-    claim: &[u8; Session::COPIES],
-    n: usize,
-    k: usize,
-    from: usize,
-    upto: usize,
-) -> bool
-    requires { ⌜ Walk (now order) n k upto × (from ≤ upto) × Gone (now order) (now standing) n from ⌝ }
-    ensures { λ r. ⌜ ((place : ℕ → ℕ) → Once (now (order .entry)) place upto → r ≡ at-front (x-on (claim-in (now (claim .entry))) k) (queue-in (now (order .entry)) place (now (standing .entry)) (now (claim .entry)) n k upto)) ⌝ }
+pub fn front_x(b: &[u8], m: usize, k: usize) -> bool
+    requires { ⌜ Ready m (bytes m (now b)) × Trimmed (bytes m (now b)) × (k < m) ⌝ }
+    ensures { λ r. ⌜ r ≡ at-front (x-on (seen-by m (own (now (b .entry))) .claim) k) (seen-by m (own (now (b .entry))) .queue k) ⌝ }
 {
-    let q = first(order, standing, claim, n, k, from, upto, NO_SAVE, 0);
-    if upto <= q {
+    let u = first(b, m, k, NO_SAVE, SHARED);
+    if u == NO_SAVE {
         return false;
     }
-    let u = order[q] as usize;
-    let c = claim[u * Session::SHEETS + k];
-    2 <= c
+    let c = state::claim(b, m, u as usize, k);
+    EXCLUSIVE <= c
 }
 
 // The least claim that stands in the way of claim c.
 fn least(c: u8) -> u8
     ensures { λ r. ⌜ r ≡ least-of c ⌝ }
 {
-    if 2 <= c {
-        return 0;
+    if EXCLUSIVE <= c {
+        return SHARED;
     }
-    2
+    EXCLUSIVE
 }
 
 // Save t's entry at sheet k is granted, or t claims nothing there.
-pub fn granted_at(
-    order: &[u8; Session::SAVES],
-    standing: &[u8; Session::STANDING],
-    claim: &[u8; Session::COPIES],
-    n: usize,
-    k: usize,
-    from: usize,
-    upto: usize,
-    t: u8,
-) -> bool
-    requires { ⌜ Walk (now order) n k upto × (from ≤ upto) × Gone (now order) (now standing) n from × (t < 32) ⌝ }
-    ensures { λ r. ⌜ ((place : ℕ → ℕ) → Once (now (order .entry)) place upto → r ≡ granted-as (claim-in (now (claim .entry)) t k) (x-on (claim-in (now (claim .entry))) k) (before t (queue-in (now (order .entry)) place (now (standing .entry)) (now (claim .entry)) n k upto))) ⌝ }
+pub fn granted_at(b: &[u8], m: usize, k: usize, t: u8) -> bool
+    requires { ⌜ Ready m (bytes m (now b)) × Trimmed (bytes m (now b)) × (k < m) × (t < 32) ⌝ }
+    ensures { λ r. ⌜ r ≡ granted (seen-by m (own (now (b .entry)))) t k ⌝ }
 {
-    let c = claim[(t as usize) * Session::SHEETS + k];
-    if c == 0 {
+    let c = state::claim(b, m, t as usize, k);
+    if c == UNCLAIMED {
         return true;
     }
     let l = least(c);
-    let q = first(order, standing, claim, n, k, from, upto, t, l);
-    if upto <= q {
+    let u = first(b, m, k, t, l);
+    if u == NO_SAVE {
         return true;
     }
-    let u = order[q];
     u == t
 }

@@ -1,16 +1,22 @@
--- The lines of the first rows, one row at a time.
-use mathlib.Core.Path.{_≡_, sym, ap, _∙_}
+-- The lines of the first rows, and the rows of the first places, one at a time.
+use mathlib.Core.Path.{_≡_, refl, sym, ap, _∙_}
+use mathlib.Core.Bool.{cond}
 use mathlib.Core.List.{List, [], _∷_, _++_, map, map-append, append-assoc, append-nil}
-use Prim.Native.Nat.{ℕ, _+_, _*_, _<_}
+use Prim.Native.Nat.{ℕ, zero, suc, _+_, _*_, _<_}
+use Prim.Native.Char.{code}
 use native.Mathlib.Numerals.{add-one}
 use native.Mathlib.Omega.{arith}
 use lib.ListN.{length, getD, take, set}
 use lib.Seq.{take-suc, take-suc-set}
+use lib.Dec.{eqb, ltb}
+use borrow.Author.Tests.{ne-eqb, lt-ltb}
 use Rattle.rules.specs.Report as rules
+use Rattle.state.specs.Parts.{Parts, PHASE, RUNS, ORDER}
+use Rattle.state.specs.View.{as-phase}
 use Rattle.text.specs.Wrote.{Wrote}
 use Rattle.text.proofs.Writing.{wrote-none, wrote-next}
 use Rattle.rows.specs.declared.Row.{Row}
-use Rattle.rows.specs.Rows.{row-of, lines-of, letter-of, rows-of}
+use Rattle.rows.specs.Rows.{row-of, lines-of, row-in, rows-of}
 
 abbrev pub line-of : Row → List ℕ
 line-of x = rules.place-line (row-of x)
@@ -35,9 +41,21 @@ module _ (rs : List Row) where
   unfolding rules.place-lines
   row-none ys a = wrote-none ys a
 
--- the rows made of the arrays, one place on
-module _ (order runs phase : List ℕ) where
-  pub row-more : (rs : List Row) (i o : ℕ) → i < length rs → o ≡ letter-of (getD phase (getD order i 0) 0) → map row-of (take i rs) ≡ rows-of order runs phase i
-      → map row-of (take (i + 1) (set rs i (record { save = getD order i 0; runs = getD runs (getD order i 0) 0; outcome = o }))) ≡ rows-of order runs phase (i + 1)
-  unfolding rows-of
-  row-more rs i o h e m = rw (add-one i, take-suc-set rs i _ h, map-append, m, e)
+-- ---- Rows made from the regions
+
+-- a phase's letter by its number
+pub letter-code : (p : ℕ) → rules.letter (as-phase p) ≡ cond (eqb p 4) (code "C") (cond (ltb 4 p) (code "D") (code "U"))
+letter-code zero = refl
+letter-code (suc zero) = refl
+letter-code (suc (suc zero)) = refl
+letter-code (suc (suc (suc zero))) = refl
+letter-code (suc (suc (suc (suc zero)))) = refl
+letter-code (suc (suc (suc (suc (suc p))))) =
+    rw (ne-eqb (suc (suc (suc (suc (suc p))))) 4 (λ e. omega arith), lt-ltb 4 (suc (suc (suc (suc (suc p))))) (omega arith))
+
+-- one place on, with its save, runs, phase and letter as they are read
+pub row-more : (d : Parts) (rs : List Row) (i t r p o : ℕ) → i < length rs → i < length (d ORDER)
+    → t ≡ getD (d ORDER) i 0 → r ≡ getD (d RUNS) t 0 → p ≡ getD (d PHASE) t 0 → o ≡ rules.letter (as-phase p) → map row-of (take i rs) ≡ rows-of d i
+    → map row-of (take (i + 1) (set rs i (record { save = t; runs = r; outcome = o }))) ≡ rows-of d (i + 1)
+row-more d rs i t r p o h l save runs phase outcome m =
+    rw (outcome, phase, runs, save, add-one i, take-suc-set rs i _ h, take-suc (d ORDER) i 0 l, map-append row-of, map-append (row-in d), m)

@@ -1,12 +1,15 @@
 // A state's lines. The P lines come from rows: the order of places is a list of rows, each with save, runs and outcome.
 ghost use mathlib.Core.Path.{_≡_};
-ghost use Prim.Native.Nat.{ℕ, _+_, _*_, _<_, _≤_};
-ghost use mathlib.Core.List.{map};
-ghost use lib.ListN.{length, take, getD};
-ghost use Rattle.rules.specs.Report.{place-line};
+ghost use Prim.Native.Nat.{_+_, _*_, _≤_};
+ghost use mathlib.Core.List.{[], map};
+ghost use lib.ListN.{length, take};
+ghost use Rattle.rules.specs.Report as rules;
+ghost use Rattle.state.specs.Parts.{byte-sizes, bytes, ORDER};
+ghost use Rattle.state.specs.View.{as-phase, view};
+ghost use Rattle.state.specs.Ready.{Whole, Table, Small, Ready};
 ghost use Rattle.text.specs.Wrote.{Wrote};
-ghost use Rattle.text.specs.Lines.{sheets-of, tally-of};
-ghost use Rattle.rows.specs.Rows.{row-of, lines-of, letter-of, rows-of, state-text};
+ghost use Rattle.text.specs.Lines.{tally-of};
+ghost use Rattle.rows.specs.Rows.{row-of, lines-of, rows-of};
 
 // A place of the order: its save, the runs entered, the outcome's letter.
 pub struct Row {
@@ -18,7 +21,7 @@ pub struct Row {
 // P t r o
 fn row_line(buf: &mut [u8], at: usize, save: u8, runs: u8, outcome: u8) -> usize
     requires { ⌜ at + 26 ≤ length (now buf) ⌝ }
-    ensures { λ r. ⌜ Wrote (now (buf .entry)) at (place-line (record { save = save; runs = runs; outcome = outcome })) 26 r (now (buf .exit)) ⌝ }
+    ensures { λ r. ⌜ Wrote (now (buf .entry)) at (rules.place-line (record { save = save; runs = runs; outcome = outcome })) 26 r (now (buf .exit)) ⌝ }
 {
     text::place_line(buf, at, save, runs, outcome)
 }
@@ -48,21 +51,21 @@ pub fn write_rows(buf: &mut [u8], at: usize, rows: [Row; 32], count: usize) -> u
 
 // A phase's letter: C committed, D dropped, U neither yet.
 fn letter(phase: u8) -> u8
-    ensures { λ r. ⌜ r ≡ letter-of phase ⌝ }
+    ensures { λ r. ⌜ r ≡ rules.letter (as-phase phase) ⌝ }
 {
-    if phase == 4 {
+    if phase == state::COMMITTED {
         return b'C';
     }
-    if 4 < phase {
+    if state::COMMITTED < phase {
         return b'D';
     }
     b'U'
 }
 
 // The rows of the first `count` places.
-fn rows_of(order: &[u8; 32], runs: &[u8; 32], phase: &[u8; 32], count: usize) -> [Row; 32]
-    requires { ⌜ (count ≤ 32) × ((i : ℕ) → i < count → getD (now order) i 0 < 32) ⌝ }
-    ensures { λ r. ⌜ map row-of (take count r) ≡ rows-of (now (order .entry)) (now (runs .entry)) (now (phase .entry)) count ⌝ }
+fn rows_of(b: &[u8], m: usize, count: usize) -> [Row; 32]
+    requires { ⌜ Whole (byte-sizes m) (bytes m (now b)) × (count ≤ 32) × Small (bytes m (now b) ORDER) count ⌝ }
+    ensures { λ r. ⌜ map row-of (take count r) ≡ rows-of (bytes m (now (b .entry))) count ⌝ }
 {
     let none = Row {
         save: 0,
@@ -72,12 +75,13 @@ fn rows_of(order: &[u8; 32], runs: &[u8; 32], phase: &[u8; 32], count: usize) ->
     let mut rows = [none; 32];
     let mut i: usize = 0;
     while i < count {
-        let t = order[i];
+        let t = state::order(b, m, i);
         let k = t as usize;
-        let o = letter(phase[k]);
+        let r = state::runs(b, m, k);
+        let o = letter(state::phase(b, m, k));
         rows[i] = Row {
             save: t,
-            runs: runs[k],
+            runs: r,
             outcome: o,
         };
         i += 1;
@@ -85,32 +89,28 @@ fn rows_of(order: &[u8; 32], runs: &[u8; 32], phase: &[u8; 32], count: usize) ->
     rows
 }
 
-// All lines of a state: the P, O and T lines, of at most 26 * 32 + 35 * 64 + 35 bytes.
+// All lines of a state: the P, O and T lines. 867 is 26 * 32 + 35, for the P lines and the T line. The copies' contents and the WCTs seen,
+// which no line shows, are given as [].
 pub fn state_lines(
     buf: &mut [u8],
     at: usize,
-    order: &[u8; 32],
-    runs: &[u8; 32],
-    phase: &[u8; 32],
-    placed: usize,
-    content: &[u32; 64],
-    wct: &[u32; 64],
+    b: &[u8],
+    w: &[u32],
     m: usize,
     accepted: u32,
     first: u32,
     second: u32,
 ) -> usize
-    requires { ⌜ (placed ≤ 32) × (m ≤ 64) × (at + 3107 ≤ length (now buf)) ⌝ }
-    requires { ⌜ ((i : ℕ) → i < placed → getD (now order) i 0 < 32) ⌝ }
+    requires { ⌜ Ready m (bytes m (now b)) × Table 2 m (now w) × (at + 867 + 35 * m ≤ length (now buf)) ⌝ }
     ensures { λ r. ⌜
         Wrote (now (buf .entry)) at
-        (state-text (rows-of (now (order .entry)) (now (runs .entry)) (now (phase .entry)) placed)
-        (sheets-of (now (content .entry)) (now (wct .entry))) m (tally-of accepted first second)) 3107 r
-        (now (buf .exit))
+        (rules.state-lines (view m (bytes m (now (b .entry))) [] [] (now (w .entry)) (tally-of accepted first second)))
+        (867 + 35 * m) r (now (buf .exit))
         ⌝ }
 {
-    let rows = rows_of(order, runs, phase, placed);
-    let e = write_rows(buf, at, rows, placed);
-    let f = text::sheet_lines(buf, e, content, wct, m);
+    let count = state::placed(b, m) as usize;
+    let rows = rows_of(b, m, count);
+    let e = write_rows(buf, at, rows, count);
+    let f = text::sheet_lines(buf, e, w, m);
     text::tally_line(buf, f, accepted, first, second)
 }

@@ -1,27 +1,31 @@
 -- DECIDE: what it stores is its rule's effect.
-use Prim.Native.Nat.{ℕ, _+_, _*_, _<_}
-use mathlib.Core.Path.{_≡_, refl, _∙_}
-use mathlib.Core.Bool.{Bool, true, false, not, _&&_, _||_, cond}
+use Prim.Native.Nat.{ℕ, _*_, _<_}
+use mathlib.Core.Path.{_≡_, refl, sym, ap, _∙_}
+use mathlib.Core.Bool.{Bool, true, false, _&&_, cond}
 use mathlib.Core.Logic.{_≢_}
-use mathlib.Core.List.{List, []}
-use native.Mathlib.Omega.{arith}
-use native.Mathlib.Numerals.{add-one}
-use lib.ListN.{length, getD, set}
+use mathlib.Core.List.{[]}
+use lib.ListN.{getD}
 use lib.Dec.{ltb}
 use borrow.Author.Tests.{ne-eqb, lt-ltb}
 use Rattle.rules.specs.Bytes.{Decide}
-use Rattle.rules.specs.Table.{all}
-use Rattle.rules.specs.State.{Tally, State, absent, claims}
-use Rattle.rules.specs.Steps.{pass, refuse, has-taken, granted}
-use Rattle.state.specs.declared.Control.{Control}
+use Rattle.rules.specs.State.{absent}
+use Rattle.rules.specs.Steps.{pass, refuse}
 use Rattle.state.specs.declared.Answer.the-variants.{Commits, SecondRun, Refused}
-use Rattle.state.specs.View.{as-phase, as-mark, flat, claim-in, view, no-tally, Steps}
+use Rattle.state.specs.Parts.{Parts, byte-sizes, store, MARK, PHASE, FAILED}
+use Rattle.state.specs.View.{as-mark, flat, view, no-tally}
+use Rattle.state.specs.Changes.{entering}
 use Rattle.state.specs.Fill.{fill}
-use Rattle.state.proofs.Tables.{row-by}
+use Rattle.state.specs.Ready.{Whole, Ready}
 use Rattle.state.proofs.Codes.{submitted-code}
-use Rattle.state.proofs.Stores.{view-set, row-in, row-out}
+use Rattle.state.proofs.Parts.{whole-put}
+use Rattle.state.proofs.Stores.{row-in, row-out, length-fill}
 use Rattle.state.proofs.Steps.{refused, accepted, same-state}
-use Rattle.saves.proofs.Phases.{with-saves}
+use Rattle.state.proofs.Tables.{row-by}
+use Rattle.state.proofs.Cells.{row-fits}
+use Rattle.state.proofs.Lent.{Does, Holds}
+use Rattle.sheets.specs.Tests.{taken-everywhere, granted-everywhere}
+use Rattle.saves.specs.Rows.{cleared-row}
+use Rattle.saves.proofs.Phases.{phase-set, runs-set, holds-entering}
 
 -- two tests with one number
 both : (a b : Bool) (n : ℕ) → a && b ≡ true → cond a (cond b pass (refuse n)) (refuse n) ≡ pass
@@ -34,45 +38,65 @@ not-both true true n e = let z : _≡_ {A = Bool} true false = e in cc
 not-both true false n e = refl
 not-both false b n e = refl
 
-module _ (d : Control) (value seen mark claim standing content wct : List ℕ) (t : ℕ) (t32 : t < 32) where
-  abbrev S : Tally → State
-  S = view d value seen mark claim standing content wct
-
-  pub decide-5 : getD (d .phase) t 0 ≢ 2 → Steps S (Decide t) S (Refused 5)
-  decide-5 n = refused (λ tally. rw (lt-ltb t 32 t32, submitted-code (getD (d .phase) t 0), ne-eqb (getD (d .phase) t 0) 2 n))
+module _ {m : ℕ} {d : Parts} (ready : Ready m d) (t : ℕ) (t32 : t < 32) {p : ℕ} (read : p ≡ getD (d PHASE) t 0) where
+  pub decide-5 : p ≢ 2 → Does m d (Decide t) d (Refused 5)
+  decide-5 n x = refused (λ tally. rw (lt-ltb t 32 t32, ← read, submitted-code p, ne-eqb p 2 n))
 
   abbrev taken : Bool
-  taken = all (d .sheets) (λ k. not (claims (claim-in claim t k)) || has-taken (view d [] [] [] claim [] [] [] no-tally) (getD (d .owner) k 0) t)
+  taken = taken-everywhere (view m d [] [] [] no-tally) t
 
   abbrev all-granted : Bool
-  all-granted = all (d .sheets) (λ k. granted (view d [] [] [] claim standing [] [] no-tally) t k)
+  all-granted = granted-everywhere (view m d [] [] [] no-tally) t
 
-  module _ (e : getD (d .phase) t 0 ≡ 2) where
-    pub decide-10 : taken && all-granted ≡ false → Steps S (Decide t) S (Refused 10)
-    decide-10 g = refused (λ tally. rw (lt-ltb t 32 t32, e) (not-both taken all-granted 10 g))
+  module _ (two : p ≡ 2) where
+    e : getD (d PHASE) t 0 ≡ 2
+    e = sym read ∙ two
 
-    module _ (lp : length (d .phase) ≡ 32) (g : taken && all-granted ≡ true) where
-      pub decide-commits : getD (d .failed) t 0 ≡ 0 → Steps S (Decide t) (view (with-saves d (set (d .phase) t 4) (d .runs)) value seen mark claim standing content wct) Commits
-      decide-commits f =
+    pub decide-10 : taken && all-granted ≡ false → Does m d (Decide t) d (Refused 10)
+    decide-10 g x = refused (λ tally. rw (lt-ltb t 32 t32, e) (not-both taken all-granted 10 g))
+
+    module _ (g : taken && all-granted ≡ true) {f : ℕ} (mark : f ≡ getD (d FAILED) t 0) where
+      pub decide-commits : f ≡ 0 → Does m d (Decide t) (store d PHASE t 4) Commits
+      decide-commits h x =
+          let f0 : getD (d FAILED) t 0 ≡ 0 = sym mark ∙ h in
           accepted
           (λ tally. rw (lt-ltb t 32 t32, e) (both taken all-granted 10 g))
-          (λ tally. rw f (same-state refl refl refl (view-set as-phase (d .phase) t 4 (rw lp t32)) refl refl refl refl refl refl refl refl refl))
-          (λ tally. rw f)
+          (λ tally. rw f0 (same-state refl refl refl (phase-set ready t t32 read 4) refl refl refl refl refl refl refl refl refl))
+          (λ tally. rw f0)
 
-      pub decide-second : getD (d .failed) t 0 ≢ 0 → length (d .runs) ≡ 32 → length mark ≡ 2048
-          → Steps S (Decide t)
-          (view (with-saves d (set (d .phase) t 3) (set (d .runs) t (getD (d .runs) t 0 + 1))) value seen (fill (λ j. 0) (t * 64) 64 mark) claim standing content wct) SecondRun
-      decide-second f lr lm =
+      -- the run's number and phase, and no copy
+      abbrev pub again : Parts
+      again = cleared-row m (entering d t 3) t m
+
+      pub decide-second : f ≢ 0 → Does m d (Decide t) again SecondRun
+      decide-second h x =
+          let f1 : getD (d FAILED) t 0 ≢ 0 = λ q. h (mark ∙ q) in
           accepted
           (λ tally. rw (lt-ltb t 32 t32, e) (both taken all-granted 10 g))
-          (λ tally. rw (ne-eqb (getD (d .failed) t 0) 0 f) (same-state refl refl refl (view-set as-phase (d .phase) t 3 (rw lp t32))
-          (row-by (λ x y. as-mark (flat (fill (λ j. 0) (t * 64) 64 mark) x y)) (S tally .mark) t (λ k. absent)
-          (λ y. rw (row-in mark t (λ j. 0) (rw lm (omega arith)) y) (zero (ltb y 64)))
-          (λ x y n. rw (row-out mark t (λ j. 0) x y n)))
-          refl refl refl
-          (view-set (λ x. x) (d .runs) t (getD (d .runs) t 0 + 1) (rw lr t32) ∙ rw add-one) refl refl refl refl))
-          (λ tally. rw (ne-eqb (getD (d .failed) t 0) 0 f))
+          (λ tally. rw (ne-eqb (getD (d FAILED) t 0) 0 f1) (same-state refl refl refl (phase-set ready t t32 read 3)
+          (row-by (λ x y. as-mark (flat m (fill (λ j. 0) (t * m) m (d MARK)) x y)) (λ x y. as-mark (flat m (d MARK) x y)) t (λ k. absent)
+          (λ y. rw (row-in m (d MARK) t (λ j. 0) (rw (ready .shaped .whole .all MARK) (row-fits m t32)) y) (zero (ltb y m)))
+          (λ x y n. rw (row-out m (d MARK) t (λ j. 0) x y n)))
+          refl refl refl (runs-set ready t t32 read) refl refl refl refl))
+          (λ tally. rw (ne-eqb (getD (d FAILED) t 0) 0 f1))
         where
           zero : (b : Bool) → as-mark (cond b 0 0) ≡ absent
           zero true = refl
           zero false = refl
+
+      -- what the code's two changes come to
+      module _ {d₁ : Parts} (e₁ : d₁ ≡ entering d t 3) where
+        pub whole-entered : Whole (byte-sizes m) d₁
+        whole-entered = rw e₁ (holds-entering ready t 3 .shaped .whole)
+
+        pub stored-again : {d₂ : Parts} → d₂ ≡ cleared-row m d₁ t m → d₂ ≡ again
+        stored-again e₂ = e₂ ∙ ap (λ (y : Parts). cleared-row m y t m) e₁
+
+      pub holds-again : Holds m d again
+      holds-again = record {
+        shaped = record {
+          whole = whole-put (holds-entering ready t 3 .shaped .whole) MARK (fill (λ j. 0) (t * m) m (d MARK)) (rw length-fill (ready .shaped .whole .all MARK));
+          fits = ready .shaped .fits;
+        };
+        hints = λ h k. record { whole = k .whole; behind = k .behind; listed = k .listed };
+      }

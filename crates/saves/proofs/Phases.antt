@@ -1,74 +1,77 @@
 -- BEGIN, GIVE UP and the second run's SUBMIT: what they store is their rules' effect.
-use Prim.Native.Nat.{ℕ, _+_, _<_}
-use mathlib.Core.Path.{_≡_, refl, _∙_}
+use Prim.Native.Nat.{ℕ, suc, _+_, _<_}
+use mathlib.Core.Path.{_≡_, refl, sym, _∙_}
 use mathlib.Core.Bool.{true, false, _||_}
 use mathlib.Core.Logic.{_≢_}
-use mathlib.Core.List.{List}
 use native.Mathlib.Numerals.{add-one}
-use lib.ListN.{length, getD, set}
+use lib.ListN.{getD, set}
 use lib.Dec.{eqb}
 use borrow.Author.Tests.{ne-eqb, lt-ltb}
 use Rattle.rules.specs.Bytes.{Begin, Submit, GiveUp}
-use Rattle.rules.specs.State.{Tally, State}
-use Rattle.state.specs.declared.Control.{Control}
+use Rattle.rules.specs.State.{Phase}
+use Rattle.rules.specs.Table.{upd}
 use Rattle.state.specs.declared.Answer.the-variants.{Accepted, Recommits, Refused}
-use Rattle.state.specs.View.{as-phase, view, Steps}
+use Rattle.state.specs.Parts.{Parts, store, PHASE, RUNS}
+use Rattle.state.specs.View.{as-phase}
+use Rattle.state.specs.Ready.{Ready}
+use Rattle.state.specs.Changes.{entering}
 use Rattle.state.proofs.Codes.{unused-code, first-code, second-code}
+use Rattle.state.proofs.Parts.{whole-store}
 use Rattle.state.proofs.Stores.{view-set}
 use Rattle.state.proofs.Steps.{refused, accepted, same-state}
+use Rattle.state.proofs.Lent.{Does, Holds}
 
-abbrev pub with-saves : Control → (phase runs : List ℕ) → Control
-with-saves d phase runs = record {
-  nodes = d .nodes;
-  sheets = d .sheets;
-  placed = d .placed;
-  owner = d .owner;
-  phase = phase;
-  failed = d .failed;
-  runs = runs;
-  order = d .order;
-  place = d .place;
-  taken = d .taken;
+-- a save's phase is stored
+pub holds-phase : {m : ℕ} {d : Parts} → Ready m d → (t v : ℕ) → Holds m d (store d PHASE t v)
+holds-phase r t v = record {
+  shaped = record { whole = whole-store (r .shaped .whole) PHASE t v; fits = r .shaped .fits };
+  hints = λ h k. record { whole = k .whole; behind = k .behind; listed = k .listed };
 }
 
-module _ (d : Control) (value seen mark claim standing content wct : List ℕ) (t : ℕ) (t32 : t < 32) where
-  abbrev S : Tally → State
-  S = view d value seen mark claim standing content wct
+-- and one more run
+pub holds-entering : {m : ℕ} {d : Parts} → Ready m d → (t p : ℕ) → Holds m d (entering d t p)
+holds-entering {d = d} r t p = record {
+  shaped = record { whole = whole-store (whole-store (r .shaped .whole) PHASE t p) RUNS t (getD (d RUNS) t 0 + 1); fits = r .shaped .fits };
+  hints = λ h k. record { whole = k .whole; behind = k .behind; listed = k .listed };
+}
 
-  abbrev S′ : (phase runs : List ℕ) → Tally → State
-  S′ phase runs = view (with-saves d phase runs) value seen mark claim standing content wct
+module _ {m : ℕ} {d : Parts} (ready : Ready m d) (t : ℕ) (t32 : t < 32) {p : ℕ} (read : p ≡ getD (d PHASE) t 0) where
+  pub begin-5 : p ≢ 0 → Does m d (Begin t) d (Refused 5)
+  begin-5 n x = refused (λ tally. rw (lt-ltb t 32 t32, ← read, unused-code p, ne-eqb p 0 n))
 
-  abbrev p : ℕ
-  p = getD (d .phase) t 0
+  pub give-up-5 : (eqb p 1 || eqb p 3) ≡ false → Does m d (GiveUp t) d (Refused 5)
+  give-up-5 run x = refused (λ tally. rw (lt-ltb t 32 t32, ← read, first-code p, second-code p, run))
 
-  pub begin-5 : p ≢ 0 → Steps S (Begin t) S (Refused 5)
-  begin-5 n = refused (λ tally. rw (lt-ltb t 32 t32, unused-code p, ne-eqb p 0 n))
+  pub submit-5 : p ≢ 1 → p ≢ 3 → Does m d (Submit t) d (Refused 5)
+  submit-5 n k x = refused (λ tally. rw (lt-ltb t 32 t32, ← read, first-code p, second-code p, ne-eqb p 1 n, ne-eqb p 3 k))
 
-  pub give-up-5 : (eqb p 1 || eqb p 3) ≡ false → Steps S (GiveUp t) S (Refused 5)
-  give-up-5 run = refused (λ tally. rw (lt-ltb t 32 t32, first-code p, second-code p, run))
+  -- the phase becomes v
+  pub phase-set : (v : ℕ) → _≡_ {A = ℕ → Phase} (λ u. as-phase (getD (set (d PHASE) t v) u 0)) (upd (λ u. as-phase (getD (d PHASE) u 0)) t (as-phase v))
+  phase-set v = view-set as-phase (d PHASE) t v (rw (ready .shaped .whole .all PHASE) t32)
 
-  pub submit-5 : p ≢ 1 → p ≢ 3 → Steps S (Submit t) S (Refused 5)
-  submit-5 n m = refused (λ tally. rw (lt-ltb t 32 t32, first-code p, second-code p, ne-eqb p 1 n, ne-eqb p 3 m))
+  -- one more run
+  pub runs-set : _≡_ {A = ℕ → ℕ} (λ u. getD (set (d RUNS) t (getD (d RUNS) t 0 + 1)) u 0) (upd (λ u. getD (d RUNS) u 0) t (suc (getD (d RUNS) t 0)))
+  runs-set = view-set (λ x. x) (d RUNS) t (getD (d RUNS) t 0 + 1) (rw (ready .shaped .whole .all RUNS) t32) ∙ rw add-one
 
-  module _ (lp : length (d .phase) ≡ 32) where
-    pub begin-steps : length (d .runs) ≡ 32 → p ≡ 0 → Steps S (Begin t) (S′ (set (d .phase) t 1) (set (d .runs) t (getD (d .runs) t 0 + 1))) Accepted
-    begin-steps lr e =
-        accepted
-        (λ tally. rw (lt-ltb t 32 t32, e))
-        (λ tally. same-state refl refl refl (view-set as-phase (d .phase) t 1 (rw lp t32)) refl refl refl refl
-        (view-set (λ x. x) (d .runs) t (getD (d .runs) t 0 + 1) (rw lr t32) ∙ rw add-one) refl refl refl refl)
-        (λ tally. refl)
+  pub give-up-steps : (eqb p 1 || eqb p 3) ≡ true → Does m d (GiveUp t) (store d PHASE t 5) Accepted
+  give-up-steps run x =
+      accepted
+      (λ tally. rw (lt-ltb t 32 t32, ← read, first-code p, second-code p, run))
+      (λ tally. same-state refl refl refl (phase-set 5) refl refl refl refl refl refl refl refl refl)
+      (λ tally. refl)
 
-    pub give-up-steps : (eqb p 1 || eqb p 3) ≡ true → Steps S (GiveUp t) (S′ (set (d .phase) t 5) (d .runs)) Accepted
-    give-up-steps run =
-        accepted
-        (λ tally. rw (lt-ltb t 32 t32, first-code p, second-code p, run))
-        (λ tally. same-state refl refl refl (view-set as-phase (d .phase) t 5 (rw lp t32)) refl refl refl refl refl refl refl refl refl)
-        (λ tally. refl)
+  pub submit-second : p ≡ 3 → Does m d (Submit t) (store d PHASE t 4) Recommits
+  submit-second e x =
+      let e′ : getD (d PHASE) t 0 ≡ 3 = sym read ∙ e in
+      accepted
+      (λ tally. rw (lt-ltb t 32 t32, e′))
+      (λ tally. rw e′ (same-state refl refl refl (phase-set 4) refl refl refl refl refl refl refl refl refl))
+      (λ tally. refl)
 
-    pub submit-second : p ≡ 3 → Steps S (Submit t) (S′ (set (d .phase) t 4) (d .runs)) Recommits
-    submit-second e =
-        accepted
-        (λ tally. rw (lt-ltb t 32 t32, e))
-        (λ tally. rw e (same-state refl refl refl (view-set as-phase (d .phase) t 4 (rw lp t32)) refl refl refl refl refl refl refl refl refl))
-        (λ tally. refl)
+  pub begin-steps : p ≡ 0 → Does m d (Begin t) (entering d t 1) Accepted
+  begin-steps e x =
+      let e′ : getD (d PHASE) t 0 ≡ 0 = sym read ∙ e in
+      accepted
+      (λ tally. rw (lt-ltb t 32 t32, e′))
+      (λ tally. same-state refl refl refl (phase-set 1) refl refl refl refl runs-set refl refl refl refl)
+      (λ tally. refl)

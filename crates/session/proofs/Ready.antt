@@ -1,30 +1,24 @@
 -- What a step relies on follows from the theorem's invariant: the engine proves none of its own.
-use Prim.Native.Nat.{ℕ, _≤_, _<_}
+use Prim.Native.Nat.{ℕ, _≤_}
 use mathlib.Core.Path.{_≡_, refl}
 use mathlib.Core.Bool.{true, false}
 use mathlib.Core.List.{List}
 use native.Mathlib.Omega.{arith}
 use lib.ListN.{getD}
-use Rattle.rules.specs.Bytes.{header, opens, byte}
+use Rattle.rules.specs.Bytes.{header, opens}
 use Rattle.rules.specs.State.{State, is-first}
-use Rattle.rules.proofs.Table.{below?}
 use Rattle.rules.proofs.Invariant.{joined}
 use Rattle.rules.proofs.Phases.{follows, runs-two}
 use Rattle.rules.proofs.Reached.{Reached, room}
-use Rattle.wire.proofs.Header.{opens-has, owner-below, owner-beyond}
+use Rattle.wire.proofs.Header.{opens-has, owner-small}
 use Rattle.state.specs.Ready.{Known}
 
 module _ (b : List ℕ) (o : opens b ≡ true) (s : State) (r : Reached s) (h : s .header ≡ header b) (few : s .tally .accepted ≤ 16384) where
-  owners : (k : ℕ) → s .header .owner k < 8
-  owners k = rw h (below? k (byte b 1)
-      (λ l. omega (arith, owner-below b o k l, opens-has b o .0 .nodes))
-      (λ l. omega (arith, owner-beyond b k l)))
-
   pub known : Known s
   known = record {
     nodes8 = rw h (opens-has b o .0 .nodes);
-    sheets64 = rw h (opens-has b o .0 .sheets);
-    owners = λ k _. owners k;
+    sheets16 = rw h (omega (arith, opens-has b o .0 .sheets));
+    owners = λ k _. rw h (owner-small b o k);
     takens = λ n _. r .inv .places .bound n;
     small = λ q l. r .inv .places .small (getD (s .order) q 0) (r .inv .places .placed q l);
     once = r .inv .places .only;
@@ -32,5 +26,4 @@ module _ (b : List ℕ) (o : opens b ≡ true) (s : State) (r : Reached s) (h : 
     room = λ t l e. room s r t l (follows is-first joined true false refl (s .phase t) e);
     runs = λ t _. omega (arith, runs-two (s .phase t) (s .runs t) (r .inv .linked .runs-right t));
     rises = λ k _. omega (arith, r .figures .wct k);
-    claimed = λ t k _ _ e. r .inv .copies .claim-range t k e;
   }

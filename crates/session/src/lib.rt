@@ -1,20 +1,25 @@
 // The run over a whole session.
 ghost use mathlib.Core.Path.{_≡_};
-ghost use Rattle.rules.specs.State.{fresh};
-ghost use Rattle.wire.specs.Meaning.{opened, owners-of};
-ghost use Rattle.state.specs.View.{control, header-of, no-tally};
-ghost use Rattle.state.specs.Ready.{Behind};
-ghost use Rattle.state.specs.Listed.{Listed};
+ghost use Prim.Native.Nat.{_+_, _*_, _≤_};
+ghost use lib.ListN.{length};
+ghost use Rattle.rules.specs.Report as rules;
+ghost use Rattle.text.specs.Wrote.{Wrote};
+ghost use Rattle.state.specs.Parts.{bytes};
+ghost use Rattle.state.specs.Slices.{slices};
+ghost use Rattle.state.specs.Ready.{Ready, Table};
+ghost use Rattle.wire.specs.Meaning.{opened};
 ghost use Rattle.wire.specs.declared.Opened.the-variants.{Header};
-ghost use Rattle.session.specs.Meaning.{refusal-in, reply-to};
-ghost use Rattle.session.specs.Looping.{arrays, shows, Sizes};
-ghost use Rattle.session.specs.Carried.{Carried};
+ghost use Rattle.session.specs.Meaning.{refusal-in, reply-to, stop-of};
+ghost use Rattle.session.specs.Looping.{Begins};
+ghost use Rattle.session.specs.Carried.{Within, Carried, filled, lines-of, Answered};
 use state::Answer;
-use state::Control;
 use state::Session;
 use state::Verdict;
 use tally::Tally;
 use wire::Next;
+
+// A report buffer has at least so many bytes.
+pub const MIN_BUFFER: usize = 4096;
 
 // Where a run stopped: at the session's end, or at a refusal with its offset, its number and the number of bytes shown.
 pub enum Stop {
@@ -63,60 +68,8 @@ fn told(a: Answer) -> Reply
     }
 }
 
-// What a run comes to: the state at its end, the last accepted command's answer, and the stop.
-pub struct Ended {
-    pub control: Control,
-    pub content: [u32; Session::SHEETS],
-    pub wct: [u32; Session::SHEETS],
-    pub tally: Tally,
-    pub last: Reply,
-    pub stop: Stop,
-}
-
-// The end of a run, from the arrays and what the walk came to.
-fn closed(
-    nodes: u8,
-    sheets: u8,
-    placed: u8,
-    owner: [u8; Session::SHEETS],
-    phase: [u8; Session::SAVES],
-    failed: [u8; Session::SAVES],
-    runs: [u8; Session::SAVES],
-    order: [u8; Session::SAVES],
-    place: [u8; Session::SAVES],
-    taken: [u8; Session::NODES],
-    content: [u32; Session::SHEETS],
-    wct: [u32; Session::SHEETS],
-    tally: Tally,
-    last: Reply,
-    stop: Stop,
-) -> Ended
-    ensures { λ r. ⌜ r ≡ record { control = control nodes sheets placed owner phase failed runs order place taken; content = content; wct = wct; tally = tally; last = last; stop = stop } ⌝ }
-{
-    Ended {
-        control: Control {
-            nodes: nodes,
-            sheets: sheets,
-            placed: placed,
-            owner: owner,
-            phase: phase,
-            failed: failed,
-            runs: runs,
-            order: order,
-            place: place,
-            taken: taken,
-        },
-        content: content,
-        wct: wct,
-        tally: tally,
-        last: last,
-        stop: stop,
-    }
-}
-
-// What the walk over a session's commands comes to, beside the arrays.
+// What the walk over a session's commands comes to, beside the slices.
 pub struct Walked {
-    pub placed: u8,
     pub tally: Tally,
     // The last accepted command's answer, a refusal where there is none.
     pub last: Answer,
@@ -124,160 +77,125 @@ pub struct Walked {
 }
 
 // Where the walk stops.
-fn halted(placed: u8, tally: Tally, last: Answer, stop: Stop) -> Walked
-    ensures { λ r. ⌜ r ≡ record { placed = placed; tally = tally; last = last; stop = stop } ⌝ }
+fn halted(tally: Tally, last: Answer, stop: Stop) -> Walked
+    ensures { λ r. ⌜ r ≡ record { tally = tally; last = last; stop = stop } ⌝ }
 {
     Walked {
-        placed: placed,
         tally: tally,
         last: last,
         stop: stop,
     }
 }
 
-// Carries fresh arrays through a session with this header, to its end or its first refusal.
+// What a run comes to: the report's length, the last accepted command's answer, and the stop.
+pub struct Ended {
+    pub size: usize,
+    pub last: Reply,
+    pub stop: Stop,
+}
+
+// All of it.
+fn closed(size: usize, last: Reply, stop: Stop) -> Ended
+    ensures { λ r. ⌜ r ≡ record { size = size; last = last; stop = stop } ⌝ }
+{
+    Ended {
+        size: size,
+        last: last,
+        stop: stop,
+    }
+}
+
+// R p c, after a refusal only.
+fn stop_line(buf: &mut [u8], at: usize, stop: Stop) -> usize
+    requires { ⌜ (at + 24 ≤ length (now buf)) × Within 16384 stop ⌝ }
+    ensures { λ r. ⌜ Wrote (now (buf .entry)) at (rules.stop-line (stop-of stop)) 24 r (now (buf .exit)) ⌝ }
+{
+    match stop {
+        Stop::End => at,
+        Stop::Refused(p, n, _) => text::refusal_line(buf, at, p as u32, n),
+    }
+}
+
+// The report of a walk: the state's lines, then the stop's. A buffer that is too short for any report is left alone.
+fn report_lines(report: &mut [u8], b: &[u8], w: &[u32], m: usize, r: Walked) -> usize
+    requires { ⌜ Ready m (bytes m (now b)) × Table 2 m (now w) × (891 + 35 * m ≤ 4096) × Within 16384 (r .stop) ⌝ }
+    ensures { λ z. ⌜ record { size = z; buffer = now (report .exit) } ≡ filled (lines-of m (now (b .entry)) (now (w .entry)) r) (now (report .entry)) ⌝ }
+    ensures fits { λ z. ⌜ z ≤ length (now (report .entry)) ⌝ }
+{
+    if report.len() < MIN_BUFFER {
+        return 0;
+    }
+    let t = r.tally;
+    let stop = r.stop;
+    let at = rows::state_lines(report, 0, b, w, m, t.accepted, t.first, t.second);
+    stop_line(report, at, stop)
+}
+
+// Carries the fresh slices of a session through to its end or its first refusal.
 fn walk(
     session: &[u8],
-    nodes: u8,
-    sheets: u8,
-    owner: &[u8; Session::SHEETS],
-    phase: &mut [u8; Session::SAVES],
-    failed: &mut [u8; Session::SAVES],
-    runs: &mut [u8; Session::SAVES],
-    order: &mut [u8; Session::SAVES],
-    place: &mut [u8; Session::SAVES],
-    taken: &mut [u8; Session::NODES],
-    gone: &mut [u8; Session::NODES],
-    value: &mut [u32; Session::COPIES],
-    seen: &mut [u32; Session::COPIES],
-    mark: &mut [u8; Session::COPIES],
-    claim: &mut [u8; Session::COPIES],
-    listed: &mut [u8; Session::COPIES],
-    many: &mut [u8; Session::SAVES],
-    standing: &mut [u8; Session::STANDING],
-    content: &mut [u32; Session::SHEETS],
-    wct: &mut [u32; Session::SHEETS],
+    b: &mut [u8],
+    listed: &mut [u16],
+    value: &mut [u32],
+    seen: &mut [u32],
+    w: &mut [u32],
+    m: usize,
 ) -> Walked
-    requires { ⌜ (Header nodes sheets ≡ opened (now session)) × Sizes (arrays (control nodes sheets 0 (now owner) (now phase) (now failed) (now runs) (now order) (now place) (now taken)) (now value) (now seen) (now mark) (now claim) (now standing) (now content) (now wct)) × (shows (arrays (control nodes sheets 0 (now owner) (now phase) (now failed) (now runs) (now order) (now place) (now taken)) (now value) (now seen) (now mark) (now claim) (now standing) (now content) (now wct)) no-tally ≡ fresh (header-of nodes sheets (owners-of (now session)))) × Behind (now order) (now standing) (now taken) (now gone) × Listed sheets (now claim) (now listed) (now many) ⌝ }
-    ensures { λ r. ⌜ Carried (now (session .entry)) (record { control = control nodes sheets (r .placed) (now (owner .entry)) (now (phase .exit)) (now (failed .exit)) (now (runs .exit)) (now (order .exit)) (now (place .exit)) (now (taken .exit)); content = now (content .exit); wct = now (wct .exit); tally = r .tally; last = reply-to (r .last); stop = r .stop }) ⌝ }
+    requires { ⌜ Begins (now session) m (slices (now b) (now listed) (now value) (now seen) (now w)) ⌝ }
+    ensures { λ r. ⌜ Carried (now (session .entry)) m (slices (now (b .exit)) (now (listed .exit)) (now (value .exit)) (now (seen .exit)) (now (w .exit))) r ⌝ }
 {
-    let mut placed: u8 = 0;
     let mut tally = Tally::new();
     let mut last = Answer::Refused(0);
-    let mut at: usize = 2 + sheets as usize;
+    let mut at: usize = 2 + m;
     while at < session.len() {
         let next = wire::read_next(&session[at..]);
         match next {
-            Next::Step(c, w) => {
-                let r = engine::step(
-                    nodes,
-                    sheets,
-                    placed,
-                    owner,
-                    phase,
-                    failed,
-                    runs,
-                    order,
-                    place,
-                    taken,
-                    gone,
-                    value,
-                    seen,
-                    mark,
-                    claim,
-                    listed,
-                    many,
-                    standing,
-                    content,
-                    wct,
-                    c,
-                );
-                let a = r.answer;
-                placed = r.placed;
+            Next::Step(c, z) => {
+                let a = engine::step(b, listed, value, seen, w, m, c);
                 let n = refusal(a);
                 if n != 0 {
-                    return halted(placed, tally, last, Stop::Refused(at, n, 1 + w));
+                    return halted(tally, last, Stop::Refused(at, n, 1 + z));
                 }
                 let t = tally.advanced(a);
                 tally = t;
                 last = a;
-                at = at + 1 + w;
+                at = at + 1 + z;
             }
-            Next::Unknown => return halted(placed, tally, last, Stop::Refused(at, 2, 1)),
-            Next::Cut => return halted(
-                placed,
-                tally,
-                last,
-                Stop::Refused(at, 3, session.len() - at),
-            ),
-            Next::End => return halted(placed, tally, last, Stop::End),
+            Next::Unknown => return halted(tally, last, Stop::Refused(at, 2, 1)),
+            Next::Cut => return halted(tally, last, Stop::Refused(at, 3, session.len() - at)),
+            Next::End => return halted(tally, last, Stop::End),
         }
     }
-    halted(placed, tally, last, Stop::End)
+    halted(tally, last, Stop::End)
 }
 
-// Carries a session with this header through to its end or its first refusal. The arrays live here, and are lent to each step.
-pub fn run(session: &[u8], nodes: u8, sheets: u8) -> Ended
+// Carries a session with this header through, and writes its report if it is lent room for one. The slices live here: tables for as many
+// sheets as a session may have, of zeros, which `Session::fresh` makes the fresh state.
+pub fn run(session: &[u8], report: &mut [u8], nodes: u8, sheets: u16) -> Ended
     requires { ⌜ Header nodes sheets ≡ opened (now session) ⌝ }
-    ensures { λ r. ⌜ Carried (now (session .entry)) r ⌝ }
+    ensures { λ r. ⌜ Answered (now (session .entry)) r ⌝ }
+    ensures report { λ r. ⌜ record { size = r .size; buffer = now (report .exit) } ≡ rules.report-call (now (session .entry)) (now (report .entry)) ⌝ }
+    ensures fits { λ r. ⌜ r .size ≤ length (now (report .entry)) ⌝ }
 {
-    let owner = wire::owners(session);
-    let mut phase: [u8; Session::SAVES] = [0; Session::SAVES];
-    let mut failed: [u8; Session::SAVES] = [0; Session::SAVES];
-    let mut runs: [u8; Session::SAVES] = [0; Session::SAVES];
-    let mut order: [u8; Session::SAVES] = [0; Session::SAVES];
-    let mut place: [u8; Session::SAVES] = [0; Session::SAVES];
-    let mut taken: [u8; Session::NODES] = [0; Session::NODES];
-    let mut gone: [u8; Session::NODES] = [0; Session::NODES];
-    let mut value: [u32; Session::COPIES] = [0; Session::COPIES];
-    let mut seen: [u32; Session::COPIES] = [0; Session::COPIES];
-    let mut mark: [u8; Session::COPIES] = [0; Session::COPIES];
-    let mut claim: [u8; Session::COPIES] = [0; Session::COPIES];
-    let mut listed: [u8; Session::COPIES] = [0; Session::COPIES];
-    let mut many: [u8; Session::SAVES] = [0; Session::SAVES];
-    let mut standing: [u8; Session::STANDING] = [0; Session::STANDING];
-    let mut content: [u32; Session::SHEETS] = [0; Session::SHEETS];
-    let mut wct: [u32; Session::SHEETS] = [0; Session::SHEETS];
-    let w = walk(
+    let mut b = [0u8; Session::BYTES];
+    let mut listed = [0u16; Session::LISTS];
+    let mut value = [0u32; Session::COPIES];
+    let mut seen = [0u32; Session::COPIES];
+    let mut w = [0u32; Session::STORE];
+    let m = sheets as usize;
+    let end = 2 + m;
+    Session::fresh(&mut b, &listed, &value, &seen, &w, nodes, &session[2..end]);
+    let r = walk(
         session,
-        nodes,
-        sheets,
-        &owner,
-        &mut phase,
-        &mut failed,
-        &mut runs,
-        &mut order,
-        &mut place,
-        &mut taken,
-        &mut gone,
+        &mut b,
+        &mut listed,
         &mut value,
         &mut seen,
-        &mut mark,
-        &mut claim,
-        &mut listed,
-        &mut many,
-        &mut standing,
-        &mut content,
-        &mut wct,
+        &mut w,
+        m,
     );
-    let a = w.last;
-    let last = told(a);
-    let stop = w.stop;
-    closed(
-        nodes,
-        sheets,
-        w.placed,
-        owner,
-        phase,
-        failed,
-        runs,
-        order,
-        place,
-        taken,
-        content,
-        wct,
-        w.tally,
-        last,
-        stop,
-    )
+    let size = report_lines(report, &b, &w, m, r);
+    let a = r.last;
+    let stop = r.stop;
+    closed(size, told(a), stop)
 }

@@ -1,52 +1,76 @@
--- Tests at the sheets of a node.
-use Prim.Native.Nat.{ℕ, _+_, _*_}
+-- The tests at one sheet by what they read, and a save's entries at a node.
+use Prim.Native.Nat.{ℕ, _+_, _*_, _<_}
 use mathlib.Core.Path.{_≡_, refl, sym, _∙_}
-use mathlib.Core.Bool.{Bool, true, false, _&&_, and-true, and-false}
+use mathlib.Core.Bool.{Bool, true, false, not, _&&_, _||_, and-true, and-false}
+use mathlib.Core.Logic.{_≢_}
 use mathlib.Core.List.{List, []}
+use native.Mathlib.Omega.{arith}
 use lib.ListN.{getD}
 use lib.Dec.{eqb, ltb}
-use borrow.Author.Tests.{ne-eqb}
-use Rattle.rules.specs.Table.{any}
+use borrow.Author.Tests.{eq-eqb, ne-eqb}
 use Rattle.rules.specs.State.{claims}
-use Rattle.rules.specs.Steps.{mem, has-entry}
+use Rattle.rules.specs.Steps.{mem, holds, x-on, fails-at, has-entry}
 use Rattle.rules.proofs.Places.{at}
-use Rattle.state.specs.View.{set?, claim-in, entered, queue-in, control, view, no-tally}
-use Rattle.state.specs.Ready.{Onces}
 use Rattle.rules.proofs.Table.{same?}
+use Rattle.state.specs.Parts.{Parts, WCT, CLAIM, STANDING, OWNER, ORDER, PLACE, TAKEN}
+use Rattle.state.specs.View.{set?, claim-in, entered, queue-in, view, no-tally}
+use Rattle.state.specs.Ready.{Ready}
+use Rattle.state.proofs.Codes.{claims-code}
+use Rattle.state.proofs.Stores.{flat-in}
 use Rattle.state.proofs.Tables.{any-cong, any-fails}
 use Rattle.queues.proofs.Walk.{entries-mem}
+use Rattle.sheets.specs.Tests.{taken-at, claims-at, stands-at}
 
--- what is asked at a sheet of node n is asked at its owner
-pub at-owner : (o n : ℕ) (f : ℕ → Bool) → (eqb o n && f n) ≡ (eqb o n && f o)
-at-owner o n f = same? o n (λ e. rw e) (λ z. rw (ne-eqb o n z))
+-- ---- A sheet of node n, or of another one
 
-module _ (sheets : ℕ) (owner order place taken claim standing : List ℕ) (n t : ℕ) (once : Onces order place taken) where
-  -- save t has its place among those that node n has taken, and stands there
-  abbrev here : Bool
-  here = set? (getD standing (n * 32 + t) 0) && (ltb (getD place t 0) (getD taken n 0) && eqb (at order (getD place t 0)) t)
+module _ {a o n : ℕ} (eo : o ≡ a) where
+  pub owned : o ≡ n → {f g : Bool} → g ≡ f → g ≡ (eqb a n && f)
+  owned e p = rw (← eo, eq-eqb o n e) p
 
-  entry-code : (k : ℕ) → mem t (queue-in order (λ u. getD place u 0) standing claim n k (getD taken n 0)) ≡ (here && claims (claim-in claim t k))
+  pub not-owned : o ≢ n → (f : Bool) → false ≡ (eqb a n && f)
+  not-owned z f = rw (← eo, ne-eqb o n z)
+
+-- ---- A sheet k of save t
+
+module _ {m : ℕ} (d : Parts) {k : ℕ} (km : k < m) (t : ℕ) {c : ℕ} (ec : c ≡ getD (d CLAIM) (t * m + k) 0) where
+  pub claims-read : set? c ≡ claims (claim-in m (d CLAIM) t k)
+  claims-read = rw (flat-in m (d CLAIM) t k km, claims-code (getD (d CLAIM) (t * m + k) 0), ec)
+
+  pub fails-read : (seen w : List ℕ) {a b : ℕ} {x : Bool} → a ≡ getD seen (t * m + k) 0 → b ≡ getD w (WCT * m + k) 0
+      → x ≡ holds (x-on (claim-in m (d CLAIM)) k) (view m d [] seen w no-tally .queue k) → fails-at (view m d [] seen w no-tally) t k ≡ (set? c && (x || ltb a b))
+  fails-read seen w ea eb ex = rw (← claims-read, ← ex, flat-in m seen t k km, flat-in m w WCT k km, ea, eb)
+
+  pub taken-read : {n q upto : ℕ} → n ≡ getD (d OWNER) k 0 → q ≡ getD (d PLACE) t 0 → upto ≡ getD (d TAKEN) n 0
+      → taken-at (view m d [] [] [] no-tally) t k ≡ (not (set? c) || ltb q upto)
+  taken-read en eq eu = rw (← claims-read, ← en, ← eq, ← eu)
+
+-- ---- A save that stands at a node has an entry at each sheet that it claims there, another has none
+
+pub stands-read : (d : Parts) (n t : ℕ) {e q upto : ℕ} → e ≡ getD (d STANDING) (n * 32 + t) 0 → q ≡ getD (d PLACE) t 0 → upto ≡ getD (d TAKEN) n 0
+    → stands-at d n t ≡ (set? e && (ltb q upto && eqb (at (d ORDER) q) t))
+stands-read d n t ee eq eu = rw (ee, eq, eu)
+
+module _ {m : ℕ} {d : Parts} (ready : Ready m d) (n t : ℕ) where
+  -- sheet k's queue, were its owner o
+  abbrev queue : (o k : ℕ) → List ℕ
+  queue o k = queue-in m (d ORDER) (λ u. getD (d PLACE) u 0) (d STANDING) (d CLAIM) o k (getD (d TAKEN) o 0)
+
+  entry-code : (k : ℕ) → mem t (queue n k) ≡ (stands-at d n t && claims (claim-in m (d CLAIM) t k))
   unfolding entered
   entry-code k =
-      entries-mem order (λ u. getD place u 0) (entered standing claim n k) t (getD taken n 0) (once n)
-      ∙ moved (set? (getD standing (n * 32 + t) 0)) (claims (claim-in claim t k)) (ltb (getD place t 0) (getD taken n 0) && eqb (at order (getD place t 0)) t)
+      entries-mem (d ORDER) (λ u. getD (d PLACE) u 0) (entered m (d STANDING) (d CLAIM) n k) t (getD (d TAKEN) n 0) (λ q l. ready .once q (omega (arith, ready .takens n)))
+      ∙ moved (set? (getD (d STANDING) (n * 32 + t) 0)) (claims (claim-in m (d CLAIM) t k)) (ltb (getD (d PLACE) t 0) (getD (d TAKEN) n 0) && eqb (at (d ORDER) (getD (d PLACE) t 0)) t)
     where
       moved : (a b c : Bool) → (a && b) && c ≡ (a && c) && b
       moved true true c = sym (and-true c)
       moved true false c = sym (and-false c)
       moved false b c = refl
 
-  abbrev entry-at : ℕ → Bool
-  entry-at k =
-      eqb (getD owner k 0) n
-      && mem t (queue-in order (λ u. getD place u 0) standing claim (getD owner k 0) k (getD taken (getD owner k 0) 0))
+  entry-at : (k : ℕ) → (eqb (getD (d OWNER) k 0) n && mem t (queue (getD (d OWNER) k 0) k)) ≡ (eqb (getD (d OWNER) k 0) n && (stands-at d n t && claims (claim-in m (d CLAIM) t k)))
+  entry-at k = same? (getD (d OWNER) k 0) n (λ e. rw (e, entry-code k)) (λ z. rw (ne-eqb (getD (d OWNER) k 0) n z))
 
-  entry-is : (k : ℕ) → entry-at k ≡ (eqb (getD owner k 0) n && (here && claims (claim-in claim t k)))
-  entry-is k =
-      sym (at-owner (getD owner k 0) n (λ m. mem t (queue-in order (λ u. getD place u 0) standing claim m k (getD taken m 0)))) ∙ rw (entry-code k)
+  pub entry-none : {g : Bool} → g ≡ stands-at d n t → g ≡ false → has-entry (view m d [] [] [] no-tally) n t ≡ false
+  entry-none eg y = any-fails m _ (λ k l. entry-at k ∙ rw (← eg, y) (and-false (eqb (getD (d OWNER) k 0) n)))
 
-  pub entry-none : here ≡ false → has-entry (view (control 0 sheets 0 owner [] [] [] order place taken) [] [] [] claim standing [] [] no-tally) n t ≡ false
-  entry-none e = any-fails sheets entry-at (λ k l. entry-is k ∙ rw e (and-false (eqb (getD owner k 0) n)))
-
-  pub entry-some : here ≡ true → has-entry (view (control 0 sheets 0 owner [] [] [] order place taken) [] [] [] claim standing [] [] no-tally) n t ≡ any sheets (λ k. eqb (getD owner k 0) n && claims (claim-in claim t k))
-  entry-some e = any-cong sheets entry-at (λ k. eqb (getD owner k 0) n && claims (claim-in claim t k)) (λ k l. entry-is k ∙ rw e)
+  pub entry-some : {g : Bool} → g ≡ stands-at d n t → g ≡ true → has-entry (view m d [] [] [] no-tally) n t ≡ claims-at (view m d [] [] [] no-tally) n t
+  entry-some eg y = any-cong m _ _ (λ k l. entry-at k ∙ rw (← eg, y))

@@ -1,123 +1,89 @@
 // The tests that commands make at the sheets that a save claims: what TAKE finds, what DECIDE asks, where APPLY finds an entry.
-// Each goes by the list of these sheets. A contract names the rules' test at the view; what a test does not read is [] or 0 there.
-ghost use Prim.Native.Nat.{ℕ, _+_, _*_, _<_, _≤_};
+// Each goes by the list of these sheets.
+ghost use Prim.Native.Nat.{_<_};
 ghost use mathlib.Core.Path.{_≡_};
-ghost use mathlib.Core.Bool.{_&&_, _||_, not};
-ghost use mathlib.Core.List.{List, []};
-ghost use lib.ListN.{getD};
-ghost use lib.Dec.{eqb, ltb};
-ghost use Rattle.rules.specs.Table.{all, any};
-ghost use Rattle.rules.specs.State.{claims};
-ghost use Rattle.rules.specs.Steps.{granted, has-taken, finds-invalid, has-entry};
-ghost use Rattle.rules.proofs.Places.{at};
-ghost use Rattle.state.specs.View.{set?, claim-in, control, view, no-tally};
-ghost use Rattle.state.specs.Ready.{Once, Onces, Owners, Queued, Gone, Behind};
-ghost use Rattle.state.specs.Listed.{Rows, Listed};
-ghost use Rattle.queues.specs.Walk.{Walk};
-ghost use Rattle.sheets.specs.Fails.{fails-in};
+ghost use Rattle.rules.specs.Steps.{fails-at, finds-invalid, has-entry};
+ghost use Rattle.state.specs.Parts.{bytes, hints};
+ghost use Rattle.state.specs.Ready.{Ready, Trimmed, Hints, Table};
+ghost use Rattle.state.specs.Lent.{own, taking, seen-by};
+ghost use Rattle.sheets.specs.Tests.{taken-at, taken-everywhere, granted-everywhere, claims-at, stands-at};
 use state::Session;
+use state::UNCLAIMED;
 
-// Node n, which owns sheet k if o is n, finds save t invalid there.
-fn fails_at(
-    order: &[u8; Session::SAVES],
-    seen: &[u32; Session::COPIES],
-    claim: &[u8; Session::COPIES],
-    standing: &[u8; Session::STANDING],
-    wct: &[u32; Session::SHEETS],
-    o: u8,
-    n: u8,
-    from: usize,
-    upto: usize,
-    t: u8,
-    k: usize,
-) -> bool
-    requires { ⌜ Walk (now order) n k upto × (from ≤ upto) × Gone (now order) (now standing) n from × (t < 32) ⌝ }
-    ensures { λ r. ⌜ ((place : ℕ → ℕ) → Once (now (order .entry)) place upto → r ≡ (eqb o n && fails-in (now (order .entry)) place (now (seen .entry)) (now (claim .entry)) (now (standing .entry)) (now (wct .entry)) t k n upto)) ⌝ }
+// Save t fails at sheet k. The queue is walked last: that takes the longest.
+fn fails_at(b: &[u8], seen: &[u32], w: &[u32], m: usize, k: usize, t: u8) -> bool
+    requires { ⌜ Ready m (bytes m (now b)) × Trimmed (bytes m (now b)) × Table 32 m (now seen) × Table 2 m (now w) × (k < m) × (t < 32) ⌝ }
+    ensures { λ r. ⌜ r ≡ fails-at (seen-by m (taking (now (b .entry)) (now (seen .entry)) (now (w .entry)))) t k ⌝ }
 {
-    if o != n {
+    let ti = t as usize;
+    let c = state::claim(b, m, ti, k);
+    if c == UNCLAIMED {
         return false;
     }
-    let i = (t as usize) * Session::SHEETS + k;
-    let c = claim[i];
-    if c == 0 {
-        return false;
-    }
-    let s = seen[i];
-    let w = wct[k];
-    if s < w {
+    let s = state::cell(seen, m, ti, k);
+    let v = state::cell(w, m, Session::WCT, k);
+    if s < v {
         return true;
     }
-    queues::holds_x(order, standing, claim, n as usize, k, from, upto)
+    queues::holds_x(b, m, k)
 }
 
 // TAKE: node n finds save t invalid at one of its sheets.
 pub fn finds_invalid(
-    owner: &[u8; Session::SHEETS],
-    order: &[u8; Session::SAVES],
-    taken: &[u8; Session::NODES],
-    gone: &[u8; Session::NODES],
-    seen: &[u32; Session::COPIES],
-    claim: &[u8; Session::COPIES],
-    listed: &[u8; Session::COPIES],
-    many: &[u8; Session::SAVES],
-    standing: &[u8; Session::STANDING],
-    wct: &[u32; Session::SHEETS],
+    b: &[u8],
+    listed: &[u16],
+    seen: &[u32],
+    w: &[u32],
+    m: usize,
     n: u8,
     t: u8,
 ) -> bool
-    requires { ⌜ Queued 64 (now owner) (now order) (now taken) × (n < 8) × (t < 32) × Behind (now order) (now standing) (now taken) (now gone) × Rows (now listed) (now many) ⌝ }
-    ensures { λ r. ⌜ ((sheets : ℕ) (place : List ℕ) → Listed sheets (now (claim .entry)) (now (listed .entry)) (now (many .entry)) → Onces (now (order .entry)) place (now (taken .entry)) → r ≡ finds-invalid (view (control 0 sheets 0 (now (owner .entry)) [] [] [] (now (order .entry)) place (now (taken .entry))) [] (now (seen .entry)) [] (now (claim .entry)) (now (standing .entry)) [] (now (wct .entry)) no-tally) n t) ⌝ }
+    requires { ⌜ Ready m (bytes m (now b)) × Hints m (bytes m (now b)) (hints m (now listed)) × Table 32 m (now seen) × Table 2 m (now w) × (n < 8) × (t < 32) ⌝ }
+    ensures { λ r. ⌜ r ≡ finds-invalid (seen-by m (taking (now (b .entry)) (now (seen .entry)) (now (w .entry)))) n t ⌝ }
 {
-    let ni = n as usize;
     let ti = t as usize;
-    let from = gone[ni] as usize;
-    let upto = taken[ni] as usize;
-    let mut i = many[ti] as usize;
+    let mut i = state::many(listed, m, ti) as usize;
     while 0 < i {
         i -= 1;
-        let k = listed[ti * Session::SHEETS + i] as usize;
-        let o = owner[k];
-        let b = fails_at(order, seen, claim, standing, wct, o, n, from, upto, t, k);
-        if b {
-            return true;
+        let k = state::sheet_at(listed, m, ti, i) as usize;
+        let o = state::owner(b, m, k);
+        if o == n {
+            let f = fails_at(b, seen, w, m, k, t);
+            if f {
+                return true;
+            }
         }
     }
     false
 }
 
-// A save of place p with claim c on a sheet has been taken by its node, which has taken m places; or it claims nothing.
-fn taken_at(c: u8, p: u8, m: u8) -> bool
-    ensures { λ r. ⌜ r ≡ (not (set? c) || ltb p m) ⌝ }
+// Save t claims nothing at sheet k, or its node has taken it.
+fn taken_at(b: &[u8], m: usize, k: usize, t: u8) -> bool
+    requires { ⌜ Ready m (bytes m (now b)) × (k < m) × (t < 32) ⌝ }
+    ensures { λ r. ⌜ r ≡ taken-at (seen-by m (own (now (b .entry)))) t k ⌝ }
 {
-    if c == 0 {
+    let ti = t as usize;
+    let c = state::claim(b, m, ti, k);
+    if c == UNCLAIMED {
         return true;
     }
-    p < m
+    let n = state::owner(b, m, k) as usize;
+    let q = state::place(b, m, ti);
+    let upto = state::taken(b, m, n);
+    q < upto
 }
 
 // DECIDE: save t was taken by every node that owns a claimed sheet.
-pub fn all_taken(
-    owner: &[u8; Session::SHEETS],
-    place: &[u8; Session::SAVES],
-    taken: &[u8; Session::NODES],
-    claim: &[u8; Session::COPIES],
-    listed: &[u8; Session::COPIES],
-    many: &[u8; Session::SAVES],
-    t: u8,
-) -> bool
-    requires { ⌜ Owners (now owner) × (t < 32) × Rows (now listed) (now many) ⌝ }
-    ensures { λ r. ⌜ ((sheets : ℕ) → Listed sheets (now (claim .entry)) (now (listed .entry)) (now (many .entry)) → r ≡ all sheets (λ k. not (claims (claim-in (now (claim .entry)) t k)) || has-taken (view (control 0 sheets 0 (now (owner .entry)) [] [] [] [] (now (place .entry)) (now (taken .entry))) [] [] [] (now (claim .entry)) [] [] [] no-tally) (getD (now (owner .entry)) k 0) t)) ⌝ }
+pub fn all_taken(b: &[u8], listed: &[u16], m: usize, t: u8) -> bool
+    requires { ⌜ Ready m (bytes m (now b)) × Hints m (bytes m (now b)) (hints m (now listed)) × (t < 32) ⌝ }
+    ensures { λ r. ⌜ r ≡ taken-everywhere (seen-by m (own (now (b .entry)))) t ⌝ }
 {
     let ti = t as usize;
-    let p = place[ti];
-    let mut i = many[ti] as usize;
+    let mut i = state::many(listed, m, ti) as usize;
     while 0 < i {
         i -= 1;
-        let k = listed[ti * Session::SHEETS + i] as usize;
-        let o = owner[k] as usize;
-        let m = taken[o];
-        let c = claim[ti * Session::SHEETS + k];
-        let h = taken_at(c, p, m);
+        let k = state::sheet_at(listed, m, ti, i) as usize;
+        let h = taken_at(b, m, k, t);
         if h {} else {
             return false;
         }
@@ -126,29 +92,16 @@ pub fn all_taken(
 }
 
 // DECIDE: save t's entries are granted.
-pub fn all_granted(
-    owner: &[u8; Session::SHEETS],
-    order: &[u8; Session::SAVES],
-    taken: &[u8; Session::NODES],
-    gone: &[u8; Session::NODES],
-    claim: &[u8; Session::COPIES],
-    listed: &[u8; Session::COPIES],
-    many: &[u8; Session::SAVES],
-    standing: &[u8; Session::STANDING],
-    t: u8,
-) -> bool
-    requires { ⌜ Queued 64 (now owner) (now order) (now taken) × (t < 32) × Behind (now order) (now standing) (now taken) (now gone) × Rows (now listed) (now many) ⌝ }
-    ensures { λ r. ⌜ ((sheets : ℕ) (place : List ℕ) → Listed sheets (now (claim .entry)) (now (listed .entry)) (now (many .entry)) → Onces (now (order .entry)) place (now (taken .entry)) → r ≡ all sheets (λ k. granted (view (control 0 sheets 0 (now (owner .entry)) [] [] [] (now (order .entry)) place (now (taken .entry))) [] [] [] (now (claim .entry)) (now (standing .entry)) [] [] no-tally) t k)) ⌝ }
+pub fn all_granted(b: &[u8], listed: &[u16], m: usize, t: u8) -> bool
+    requires { ⌜ Ready m (bytes m (now b)) × Hints m (bytes m (now b)) (hints m (now listed)) × (t < 32) ⌝ }
+    ensures { λ r. ⌜ r ≡ granted-everywhere (seen-by m (own (now (b .entry)))) t ⌝ }
 {
     let ti = t as usize;
-    let mut i = many[ti] as usize;
+    let mut i = state::many(listed, m, ti) as usize;
     while 0 < i {
         i -= 1;
-        let k = listed[ti * Session::SHEETS + i] as usize;
-        let n = owner[k] as usize;
-        let from = gone[n] as usize;
-        let upto = taken[n] as usize;
-        let g = queues::granted_at(order, standing, claim, n, k, from, upto, t);
+        let k = state::sheet_at(listed, m, ti, i) as usize;
+        let g = queues::granted_at(b, m, k, t);
         if g {} else {
             return false;
         }
@@ -156,90 +109,54 @@ pub fn all_granted(
     true
 }
 
-// Save t, of place q, is one of the first `upto`, and stands at node n.
-fn stands(
-    order: &[u8; Session::SAVES],
-    standing: &[u8; Session::STANDING],
-    n: usize,
-    upto: usize,
-    t: u8,
-    q: u8,
-) -> bool
-    requires { ⌜ (n < 8) × (t < 32) × (upto ≤ 32) ⌝ }
-    ensures { λ r. ⌜ r ≡ (set? (getD (now (standing .entry)) (n * 32 + t) 0) && (ltb q upto && eqb (at (now (order .entry)) q) t)) ⌝ }
-{
-    let e = standing[n * Session::SAVES + (t as usize)];
-    if e == 0 {
-        return false;
-    }
-    let qi = q as usize;
-    if upto <= qi {
-        return false;
-    }
-    let u = order[qi];
-    u == t
-}
-
-// Node n owns the sheet, if o is n, and the claim on it is c.
-fn claimed_here(o: u8, n: u8, c: u8) -> bool
-    ensures { λ r. ⌜ r ≡ (eqb o n && set? c) ⌝ }
-{
-    if o != n {
-        return false;
-    }
-    c != 0
-}
-
 // Save t claims a sheet of node n.
-pub fn claims_here(
-    owner: &[u8; Session::SHEETS],
-    claim: &[u8; Session::COPIES],
-    listed: &[u8; Session::COPIES],
-    many: &[u8; Session::SAVES],
-    n: u8,
-    t: u8,
-) -> bool
-    requires { ⌜ (t < 32) × Rows (now listed) (now many) ⌝ }
-    ensures { λ r. ⌜ ((sheets : ℕ) → Listed sheets (now (claim .entry)) (now (listed .entry)) (now (many .entry)) → r ≡ any sheets (λ k. eqb (getD (now (owner .entry)) k 0) n && claims (claim-in (now (claim .entry)) t k))) ⌝ }
+pub fn claims_here(b: &[u8], listed: &[u16], m: usize, n: u8, t: u8) -> bool
+    requires { ⌜ Ready m (bytes m (now b)) × Hints m (bytes m (now b)) (hints m (now listed)) × (t < 32) ⌝ }
+    ensures { λ r. ⌜ r ≡ claims-at (seen-by m (own (now (b .entry)))) n t ⌝ }
 {
     let ti = t as usize;
-    let mut i = many[ti] as usize;
+    let mut i = state::many(listed, m, ti) as usize;
     while 0 < i {
         i -= 1;
-        let k = listed[ti * Session::SHEETS + i] as usize;
-        let o = owner[k];
-        let c = claim[ti * Session::SHEETS + k];
-        let h = claimed_here(o, n, c);
-        if h {
-            return true;
+        let k = state::sheet_at(listed, m, ti, i) as usize;
+        let o = state::owner(b, m, k);
+        if o == n {
+            let c = state::claim(b, m, ti, k);
+            if c != UNCLAIMED {
+                return true;
+            }
         }
     }
     false
 }
 
-// APPLY: save t has an entry at node n.
-pub fn has_entry(
-    owner: &[u8; Session::SHEETS],
-    order: &[u8; Session::SAVES],
-    place: &[u8; Session::SAVES],
-    taken: &[u8; Session::NODES],
-    claim: &[u8; Session::COPIES],
-    listed: &[u8; Session::COPIES],
-    many: &[u8; Session::SAVES],
-    standing: &[u8; Session::STANDING],
-    n: u8,
-    t: u8,
-) -> bool
-    requires { ⌜ Queued 64 (now owner) (now order) (now taken) × Onces (now order) (now place) (now taken) × (n < 8) × (t < 32) × Rows (now listed) (now many) ⌝ }
-    ensures { λ r. ⌜ ((sheets : ℕ) → Listed sheets (now (claim .entry)) (now (listed .entry)) (now (many .entry)) → r ≡ has-entry (view (control 0 sheets 0 (now (owner .entry)) [] [] [] (now (order .entry)) (now (place .entry)) (now (taken .entry))) [] [] [] (now (claim .entry)) (now (standing .entry)) [] [] no-tally) n t) ⌝ }
+// Save t has its place among those that node n has taken, and stands there.
+fn stands(b: &[u8], m: usize, n: usize, t: u8) -> bool
+    requires { ⌜ Ready m (bytes m (now b)) × (n < 8) × (t < 32) ⌝ }
+    ensures { λ r. ⌜ r ≡ stands-at (bytes m (now (b .entry))) n t ⌝ }
 {
-    let ni = n as usize;
     let ti = t as usize;
-    let upto = taken[ni] as usize;
-    let q = place[ti];
-    let s = stands(order, standing, ni, upto, t, q);
+    let e = state::standing(b, m, n, ti);
+    if e == 0 {
+        return false;
+    }
+    let q = state::place(b, m, ti);
+    let upto = state::taken(b, m, n);
+    if upto <= q {
+        return false;
+    }
+    let u = state::order(b, m, q as usize);
+    u == t
+}
+
+// APPLY: save t has an entry at node n.
+pub fn has_entry(b: &[u8], listed: &[u16], m: usize, n: u8, t: u8) -> bool
+    requires { ⌜ Ready m (bytes m (now b)) × Hints m (bytes m (now b)) (hints m (now listed)) × (n < 8) × (t < 32) ⌝ }
+    ensures { λ r. ⌜ r ≡ has-entry (seen-by m (own (now (b .entry)))) n t ⌝ }
+{
+    let s = stands(b, m, n as usize, t);
     if s {
-        return claims_here(owner, claim, listed, many, n, t);
+        return claims_here(b, listed, m, n, t);
     }
     false
 }

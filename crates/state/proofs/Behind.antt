@@ -1,22 +1,21 @@
 -- What a node has behind it stays so, and grows.
 use Prim.Native.Nat.{ℕ, _+_, _*_, _≤_, _<_}
-use mathlib.Core.Path.{_≡_, refl, sym, ap, subst, _∙_}
+use mathlib.Core.Path.{_≡_, sym, ap, subst, _∙_}
 use mathlib.Core.List.{List}
 use native.Mathlib.Omega.{arith}
 use native.Mathlib.Nat.{not-suc-le-zero}
-use lib.ListN.{length, getD, set, length-set, replicate}
+use lib.ListN.{length, getD, set}
 use lib.Seq.{getD-set-same, getD-set-other}
 use Rattle.rules.proofs.Places.{at}
 use Rattle.state.specs.Ready.{Small, Once, Gone, Behind}
 use Rattle.rules.proofs.Table.{same?}
-use Rattle.state.proofs.Fresh.{zeros}
+use Rattle.state.specs.Starts.{Zero}
 
 -- nothing is behind at first
-pub behind-none : (order standing taken : List ℕ) → Behind order standing taken (replicate 8 0)
-behind-none order standing taken = record {
-  size = refl;
-  within = λ n. rw (zeros 8 n) (omega arith);
-  none = λ n q l. absurd (not-suc-le-zero (rw (zeros 8 n) at l));
+pub behind-none : (order standing taken gone : List ℕ) → Zero gone → Behind order standing taken gone
+behind-none order standing taken gone z = record {
+  within = λ n. rw (z n) (omega arith);
+  none = λ n q l. absurd (not-suc-le-zero (rw (z n) at l));
 }
 
 -- one place more
@@ -27,7 +26,6 @@ module _ {order standing taken gone : List ℕ} (b : Behind order standing taken
   -- SUBMIT: the order grows past what the nodes have taken
   pub behind-placed : (placed t : ℕ) → ((n : ℕ) → getD taken n 0 ≤ placed) → Behind (set order placed t) standing taken gone
   behind-placed placed t h = record {
-    size = b .size;
     within = b .within;
     none = λ n q l. rw (getD-set-other order placed q t 0 (λ e. let x = h n in let y = b .within n in omega arith)) (b .none n q l);
   }
@@ -35,7 +33,6 @@ module _ {order standing taken gone : List ℕ} (b : Behind order standing taken
   -- TAKE: the node has taken one place more
   pub behind-moved : (n : ℕ) → n < length taken → Behind order standing (set taken n (getD taken n 0 + 1)) gone
   behind-moved n n8 = record {
-    size = b .size;
     within = λ m. same? m n
         (λ e. let y = b .within n in rw (e, getD-set-same taken n (getD taken n 0 + 1) 0 n8) (omega arith))
         (λ z. rw (getD-set-other taken n m (getD taken n 0 + 1) 0 z) (b .within m));
@@ -46,7 +43,6 @@ module _ {order standing taken gone : List ℕ} (b : Behind order standing taken
   pub behind-taken : (place : ℕ → ℕ) (placed n v : ℕ) → Once order place placed → Small order placed → ((m : ℕ) → getD taken m 0 ≤ placed) → getD taken n 0 < placed → n < length taken
       → Behind order (set standing (n * 32 + at order (getD taken n 0)) v) (set taken n (getD taken n 0 + 1)) gone
   behind-taken place placed n v once small h l n8 = record {
-    size = b .size;
     within = behind-moved n n8 .within;
     none = λ m q k.
         let x = h m in
@@ -66,7 +62,6 @@ module _ {order standing taken gone : List ℕ} (b : Behind order standing taken
   -- APPLY: an entry goes
   pub behind-left : (i : ℕ) → i < length standing → Behind order (set standing i 0) taken gone
   behind-left i h = record {
-    size = b .size;
     within = b .within;
     none = λ n q l. same? (n * 32 + at order q) i
         (λ e. rw (e, getD-set-same standing i 0 0 h))
@@ -74,13 +69,12 @@ module _ {order standing taken gone : List ℕ} (b : Behind order standing taken
   }
 
   -- and the node has more behind it
-  pub behind-on : (n g : ℕ) → n < 8 → g ≤ getD taken n 0 → Gone order standing n g → Behind order standing taken (set gone n g)
+  pub behind-on : (n g : ℕ) → n < length gone → g ≤ getD taken n 0 → Gone order standing n g → Behind order standing taken (set gone n g)
   behind-on n g n8 l o = record {
-    size = rw length-set (b .size);
     within = λ m. same? m n
-        (λ e. rw (e, getD-set-same gone n g 0 (rw (b .size) n8)) l)
+        (λ e. rw (e, getD-set-same gone n g 0 n8) l)
         (λ z. rw (getD-set-other gone n m g 0 z) (b .within m));
     none = λ m. same? m n
-        (λ e. subst (λ (x : ℕ). Gone order standing x (getD (set gone n g) x 0)) (sym e) (rw (getD-set-same gone n g 0 (rw (b .size) n8)) o))
+        (λ e. subst (λ (x : ℕ). Gone order standing x (getD (set gone n g) x 0)) (sym e) (rw (getD-set-same gone n g 0 n8) o))
         (λ z. rw (getD-set-other gone n m g 0 z) (b .none m));
   }

@@ -1,9 +1,14 @@
+pub mod Cells
+pub mod Parts
+pub mod Changes
 pub mod Tables
 pub mod Codes
 pub mod Stores
 pub mod Places
 pub mod Steps
 pub mod Ready
-pub mod Fresh
 pub mod Behind
 pub mod Listed
+pub mod Fresh
+pub mod Blank
+pub mod Lent

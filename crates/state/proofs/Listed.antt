@@ -6,17 +6,17 @@ use mathlib.Core.Logic.{_≢_}
 use mathlib.Core.List.{List}
 use native.Mathlib.Omega.{arith}
 use native.Mathlib.Nat.{not-suc-le-zero}
-use lib.ListN.{length, getD, set, length-set, replicate}
+use lib.ListN.{length, getD, set}
 use lib.Seq.{getD-set-same, getD-set-other}
 use Rattle.rules.specs.Table.{all, any}
 use Rattle.rules.specs.State.{claims, unclaimed as no-claim}
 use Rattle.rules.proofs.Table.{same?, below?, any-at, any-intro, all-at, all-intro, clash}
 use Rattle.state.specs.View.{claim-in}
-use Rattle.state.specs.Ready.{Queued}
 use Rattle.state.specs.Fill.{fill}
 use Rattle.state.specs.Listed.{Lists, Listed}
-use Rattle.state.proofs.Fresh.{zeros}
+use Rattle.state.specs.Starts.{Zero}
 use Rattle.state.proofs.Stores.{flat-in, flat-past, fill-in, fill-out}
+use Rattle.state.proofs.Cells.{cell-same}
 
 -- ---- Tests
 
@@ -46,26 +46,22 @@ module _ {bound n : ℕ} {place listed : ℕ → ℕ} (l : Lists bound place lis
       (none k h)
       (λ z. let w = l .whole k h z in rw (w .2) at (all-at n (λ i. f (listed i)) e (w .0) (w .1)))))
 
-pub not-claimed : (claim : List ℕ) (t k : ℕ) → getD claim (t * 64 + k) 0 ≡ 0 → claim-in claim t k ≡ no-claim
-not-claimed claim t k e = below? k 64 (λ h. rw (flat-in claim t k h, e)) (λ h. rw (flat-past claim t k h))
+module _ (m : ℕ) (claim : List ℕ) (t k : ℕ) (e : getD claim (t * m + k) 0 ≡ 0) where
+  pub not-claimed : claim-in m claim t k ≡ no-claim
+  not-claimed = below? k m (λ h. rw (flat-in m claim t k h, e)) (λ h. rw (flat-past m claim t k h))
 
-pub unclaimed : (claim : List ℕ) (t k : ℕ) → getD claim (t * 64 + k) 0 ≡ 0 → claims (claim-in claim t k) ≡ false
-unclaimed claim t k e = rw (not-claimed claim t k e)
+  pub unclaimed : claims (claim-in m claim t k) ≡ false
+  unclaimed = rw not-claimed
 
 -- ---- Lists
 
 -- nothing is claimed at first
-pub listed-none : (sheets : ℕ) → Listed sheets (replicate 2048 0) (replicate 2048 0) (replicate 32 0)
-listed-none sheets = record {
-  rows = record {
-    size = refl;
-    counts = refl;
-    few = λ t h. rw (zeros 32 t) (omega arith);
-    sheet = λ t i h l. rw (zeros 2048 (t * 64 + i)) (omega arith);
-  };
+pub listed-none : (m : ℕ) (claim listed many : List ℕ) → Zero claim → Zero many → Listed m claim listed many
+listed-none m claim listed many zc zm = record {
+  few = λ t h. rw (zm t) (omega arith);
   lists = λ t h. record {
-    below = λ i l. absurd (not-suc-le-zero (rw (zeros 32 t) at l));
-    whole = λ k l n. absurd (n (zeros 2048 (t * 64 + k)));
+    below = λ i l. absurd (not-suc-le-zero (rw (zm t) at l));
+    whole = λ k l n. absurd (n (zc (t * m + k)));
   };
 }
 
@@ -87,45 +83,33 @@ module _ {k n : ℕ} {place listed : ℕ → ℕ} (l : Lists k place listed n) w
   }
 
 -- a row anew, the others as they were
-pub listed-row : {sheets : ℕ} {claim listed many : List ℕ} → Listed sheets claim listed many → sheets ≤ 64
-    → (mark more : List ℕ) (t n : ℕ) → t < 32 → length claim ≡ 2048 → length more ≡ 2048 → n ≤ 64
-    → Lists sheets (λ k. getD mark (t * 64 + k) 0) (λ i. getD more (t * 64 + i) 0) n
-    → ((x y : ℕ) → x ≢ t → y < 64 → getD more (x * 64 + y) 0 ≡ getD listed (x * 64 + y) 0)
-    → Listed sheets (fill (λ j. getD mark (t * 64 + j) 0) (t * 64) 64 claim) more (set many t n)
-listed-row {sheets} {claim} {listed} {many} l s64 mark more t n t32 lc lm n64 row other = record {
-  rows = record {
-    size = lm;
-    counts = rw length-set (l .rows .counts);
-    few = λ x h. same? x t
-        (λ e. rw (e, getD-set-same many t n 0 (rw (l .rows .counts) t32)) n64)
-        (λ z. rw (getD-set-other many t x n 0 z) (l .rows .few x h));
-    sheet = λ x i h j. same? x t
-        (λ e. rw e (let z = row .below i (rw (e, getD-set-same many t n 0 (rw (l .rows .counts) t32)) at j) in omega arith))
-        (λ z. let j′ : i < getD many x 0 = rw (getD-set-other many t x n 0 z) at j in let f = l .rows .few x h in
-        rw (other x i z (omega arith)) (l .rows .sheet x i h j′));
-  };
+pub listed-row : {m : ℕ} {claim listed many : List ℕ} → Listed m claim listed many
+    → (mark more : List ℕ) (t n : ℕ) → t < length many → t * m + m ≤ length claim → n ≤ m
+    → Lists m (λ k. getD mark (t * m + k) 0) (λ i. getD more (t * m + i) 0) n
+    → ((x y : ℕ) → x ≢ t → y < m → getD more (x * m + y) 0 ≡ getD listed (x * m + y) 0)
+    → Listed m (fill (λ j. getD mark (t * m + j) 0) (t * m) m claim) more (set many t n)
+listed-row {m} {claim} {listed} {many} l mark more t n lt lc nm row other = record {
+  few = λ x h. same? x t
+      (λ e. rw (e, getD-set-same many t n 0 lt) nm)
+      (λ z. rw (getD-set-other many t x n 0 z) (l .few x h));
   lists = λ x h. same? x t
-      (λ e. rw (e, getD-set-same many t n 0 (rw (l .rows .counts) t32)) (new row))
+      (λ e. rw (e, getD-set-same many t n 0 lt) (new row))
       (λ z. rw (getD-set-other many t x n 0 z) (old x h z));
 }
   where
-    new : Lists sheets (λ k. getD mark (t * 64 + k) 0) (λ i. getD more (t * 64 + i) 0) n
-        → Lists sheets (λ k. getD (fill (λ j. getD mark (t * 64 + j) 0) (t * 64) 64 claim) (t * 64 + k) 0) (λ i. getD more (t * 64 + i) 0) n
+    new : Lists m (λ k. getD mark (t * m + k) 0) (λ i. getD more (t * m + i) 0) n
+        → Lists m (λ k. getD (fill (λ j. getD mark (t * m + j) 0) (t * m) m claim) (t * m + k) 0) (λ i. getD more (t * m + i) 0) n
     new r = record {
       below = r .below;
-      whole = λ k h z. r .whole k h (λ e. z (fill-in (λ j. getD mark (t * 64 + j) 0) (t * 64) 64 claim k (omega arith) (rw lc (omega arith)) ∙ e));
+      whole = λ k h z. r .whole k h (λ e. z (fill-in (λ j. getD mark (t * m + j) 0) (t * m) m claim k h lc ∙ e));
     }
 
     old : (x : ℕ) → x < 32 → x ≢ t
-        → Lists sheets (λ k. getD (fill (λ j. getD mark (t * 64 + j) 0) (t * 64) 64 claim) (x * 64 + k) 0) (λ i. getD more (x * 64 + i) 0) (getD many x 0)
+        → Lists m (λ k. getD (fill (λ j. getD mark (t * m + j) 0) (t * m) m claim) (x * m + k) 0) (λ i. getD more (x * m + i) 0) (getD many x 0)
     old x h z = record {
-      below = λ i j. let f = l .rows .few x h in rw (other x i z (omega arith)) (l .lists x h .below i j);
+      below = λ i j. let f = l .few x h in rw (other x i z (omega arith)) (l .lists x h .below i j);
       whole = λ k j c.
-          let w = l .lists x h .whole k j (λ e. c (fill-out (λ j. getD mark (t * 64 + j) 0) (t * 64) 64 claim (x * 64 + k) (λ y r q. z (omega arith)) ∙ e)) in
-          let f = l .rows .few x h in
+          let w = l .lists x h .whole k j (λ e. c (fill-out (λ j. getD mark (t * m + j) 0) (t * m) m claim (x * m + k) (λ y r q. z (cell-same m j r q)) ∙ e)) in
+          let f = l .few x h in
           (w .0, w .1, other x (w .0) z (omega (arith, w .1)) ∙ w .2);
     }
-
--- the walks ask no more of 64 sheets than of fewer
-pub queued-64 : {sheets : ℕ} {owner order taken : List ℕ} → Queued sheets owner order taken → Queued 64 owner order taken
-queued-64 q = record { sheets64 = omega arith; owners = q .owners; takens = q .takens; small = q .small }

@@ -9,13 +9,14 @@ use lib.ListN.{length, take}
 use lib.Seq.{length-take-le}
 use lib.Dec.{eqb}
 use Rattle.rules.specs.Steps.{without}
-use Rattle.state.specs.declared.Control.{Control}
+use Rattle.state.specs.Parts.{Parts, ORDER}
+use Rattle.state.specs.View.{placed}
 use Rattle.rules.proofs.Places.{at, by, entries, without-snoc}
 use Rattle.state.specs.Ready.{Shaped}
 use Rattle.rules.proofs.Table.{bool}
 
-pub order-length : (d : Control) → Shaped d → length (take (d .placed) (d .order)) ≡ d .placed
-order-length d shaped = length-take-le (d .placed) (d .order) (rw (shaped .order) (shaped .fits))
+pub order-length : (m : ℕ) (d : Parts) → Shaped m d → length (take (placed d) (d ORDER)) ≡ placed d
+order-length m d shaped = length-take-le (placed d) (d ORDER) (rw (shaped .whole .all ORDER) (shaped .fits))
 
 pub entries-on : (order : List ℕ) (place : ℕ → ℕ) (f : ℕ → Bool) (p : ℕ)
     → entries order place f (suc p) ≡ cond (by order place f p) (entries order place f p ++ at order p ∷ []) (entries order place f p)

@@ -1,4 +1,9 @@
+pub mod Parts
+pub mod Slices
 pub mod View
-pub mod Ready
-pub mod Fill
 pub mod Listed
+pub mod Ready
+pub mod Lent
+pub mod Changes
+pub mod Starts
+pub mod Fill

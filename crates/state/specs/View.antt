@@ -1,16 +1,14 @@
--- The rules' state that the arrays show, and what it is for an answer to be the rules' one.
+-- The rules' state that the slices show, and the paper's values of each answer.
 use Prim.Native.Nat.{ℕ, zero, suc, _+_, _*_}
-use mathlib.Core.Path.{_≡_}
 use mathlib.Core.Bool.{Bool, not, _&&_, cond}
 use mathlib.Core.List.{List}
 use lib.ListN.{getD, take}
 use lib.Dec.{eqb, ltb}
-use Rattle.rules.specs.Bytes.{Header, Command}
+use Rattle.rules.specs.Bytes.{Header}
 use Rattle.rules.specs.State.{Phase, unused, first, submitted, second, committed, dropped, Mark, absent, copied, written, Claim, unclaimed, shared, exclusive, Tally, State, claims}
 use Rattle.rules.specs.Steps as rules
-use Rattle.rules.specs.Steps.{Result, answered, refused, step, counted, counted-first, counted-second}
-use Rattle.state.specs.declared.Control.{Control}
-use Rattle.state.specs.declared.Session.{Session}
+use Rattle.rules.specs.Steps.{Result, answered, refused, counted, counted-first, counted-second}
+use Rattle.state.specs.Parts.{Parts, CONTENT, WCT, MARK, CLAIM, STANDING, OWNER, PHASE, FAILED, RUNS, ORDER, PLACE, TAKEN, NODES, PLACED}
 use Rattle.state.specs.declared.Verdict.{Verdict}
 use Rattle.state.specs.declared.Verdict.the-variants.{Valid, Invalid}
 use Rattle.state.specs.declared.Answer.{Answer}
@@ -40,60 +38,51 @@ as-claim (suc (suc c)) = exclusive
 abbrev pub set? : ℕ → Bool
 set? m = not (eqb m 0)
 
+-- ---- Single bytes
+
+abbrev pub nodes : Parts → ℕ
+nodes d = getD (d NODES) 0 0
+
+abbrev pub placed : Parts → ℕ
+placed d = getD (d PLACED) 0 0
+
 -- ---- Tables
 
--- a table by row and column, 64 to a row: a column past the row is 0, and not the next row's
-unfoldable pub flat : List ℕ → ℕ → ℕ → ℕ
-flat l x y = cond (ltb y 64) (getD l (x * 64 + y) 0) 0
+-- a table by row and column, m to a row: a column past the row is 0, and not the next row's
+unfoldable pub flat : ℕ → List ℕ → ℕ → ℕ → ℕ
+flat m l x y = cond (ltb y m) (getD l (x * m + y) 0) 0
 
-abbrev pub claim-in : List ℕ → ℕ → ℕ → Claim
-claim-in claim t k = as-claim (flat claim t k)
+abbrev pub claim-in : ℕ → List ℕ → ℕ → ℕ → Claim
+claim-in m claim t k = as-claim (flat m claim t k)
 
 -- save t has an entry at sheet k of node n
-unfoldable pub entered : (standing claim : List ℕ) → (n k t : ℕ) → Bool
-entered standing claim n k t = set? (getD standing (n * 32 + t) 0) && claims (claim-in claim t k)
+unfoldable pub entered : (m : ℕ) → (standing claim : List ℕ) → (n k t : ℕ) → Bool
+entered m standing claim n k t = set? (getD standing (n * 32 + t) 0) && claims (claim-in m claim t k)
 
 -- the queue of sheet k of node n, which has taken `upto` places
-abbrev pub queue-in : (order : List ℕ) → (place : ℕ → ℕ) → (standing claim : List ℕ) → (n k upto : ℕ) → List ℕ
-queue-in order place standing claim n k upto = entries order place (entered standing claim n k) upto
+abbrev pub queue-in : (m : ℕ) → (order : List ℕ) → (place : ℕ → ℕ) → (standing claim : List ℕ) → (n k upto : ℕ) → List ℕ
+queue-in m order place standing claim n k upto = entries order place (entered m standing claim n k) upto
 
 abbrev pub header-of : ℕ → ℕ → List ℕ → Header
-header-of nodes sheets owner = record { nodes = nodes; sheets = sheets; owner = λ k. getD owner k 0 }
+header-of n m owner = record { nodes = n; sheets = m; owner = λ k. getD owner k 0 }
 
--- the record of the arrays that are lent one by one
-abbrev pub control : (nodes sheets placed : ℕ) → (owner phase failed runs order place taken : List ℕ) → Control
-control nodes sheets placed owner phase failed runs order place taken = record {
-  nodes = nodes;
-  sheets = sheets;
-  placed = placed;
-  owner = owner;
-  phase = phase;
-  failed = failed;
-  runs = runs;
-  order = order;
-  place = place;
-  taken = taken;
-}
-
-abbrev pub view : Control → (value seen mark claim standing content wct : List ℕ) → Tally → State
-view d value seen mark claim standing content wct tally = record {
-  header = header-of (d .nodes) (d .sheets) (d .owner);
-  sheet = λ k. record { content = getD content k 0; wct = getD wct k 0 };
-  queue = λ k. queue-in (d .order) (λ t. getD (d .place) t 0) standing claim (getD (d .owner) k 0) k (getD (d .taken) (getD (d .owner) k 0) 0);
-  phase = λ t. as-phase (getD (d .phase) t 0);
-  mark = λ t k. as-mark (flat mark t k);
-  copy = λ t k. record { content = flat value t k; wct = flat seen t k };
-  claim = claim-in claim;
-  failed = λ t. set? (getD (d .failed) t 0);
-  runs = λ t. getD (d .runs) t 0;
-  order = take (d .placed) (d .order);
-  place = λ t. getD (d .place) t 0;
-  taken = λ n. getD (d .taken) n 0;
+-- the state of m sheets
+abbrev pub view : ℕ → Parts → (value seen w : List ℕ) → Tally → State
+view m d value seen w tally = record {
+  header = header-of (nodes d) m (d OWNER);
+  sheet = λ k. record { content = flat m w CONTENT k; wct = flat m w WCT k };
+  queue = λ k. queue-in m (d ORDER) (λ t. getD (d PLACE) t 0) (d STANDING) (d CLAIM) (getD (d OWNER) k 0) k (getD (d TAKEN) (getD (d OWNER) k 0) 0);
+  phase = λ t. as-phase (getD (d PHASE) t 0);
+  mark = λ t k. as-mark (flat m (d MARK) t k);
+  copy = λ t k. record { content = flat m value t k; wct = flat m seen t k };
+  claim = claim-in m (d CLAIM);
+  failed = λ t. set? (getD (d FAILED) t 0);
+  runs = λ t. getD (d RUNS) t 0;
+  order = take (placed d) (d ORDER);
+  place = λ t. getD (d PLACE) t 0;
+  taken = λ n. getD (d TAKEN) n 0;
   tally = tally;
 }
-
-abbrev pub shown : Session → Tally → State
-shown s tally = view (s .control) (s .value) (s .seen) (s .mark) (s .claim) (s .standing) (s .content) (s .wct) tally
 
 abbrev pub no-tally : Tally
 no-tally = record { accepted = 0; from-first = 0; from-second = 0 }
@@ -123,7 +112,3 @@ advanced a Commits = counted-first a
 advanced a SecondRun = counted a
 advanced a Recommits = counted-second a
 advanced a (Refused n) = a
-
--- the state after and the answer are those of the rules' step, whatever the tally
-pub record Steps (before : Tally → State) (c : Command) (after : Tally → State) (a : Answer) : Type 0 where
-  pub equation : (tally : Tally) → _≡_ {A = rules.Stepped} (record { state = after (advanced tally a); result = result-of a }) (step (before tally) c)

@@ -1,46 +1,49 @@
-// A session's state as arrays, which are lent to the commands and changed in place. `Control` is the record of all but the tables.
+// A session's state as slices, which are lent to the commands in one order and changed in place: `b`, `listed`, `value`, `seen`, `w`. They
+// are as long as the session's number of sheets, m, asks, or longer; a table's row has m columns.
+//
+// The bytes `b` have their tables as regions, one after the other; `listed` has, for each save, how many sheets it claims and which; `value`
+// and `seen` have a row for each save, with the contents of its copies and the WCTs seen; `w` has the sheets' contents, then their WCTs.
+// What a command looks at and changes has a function here, so that no command knows where a region starts.
+ghost use Prim.Native.Nat.{_+_, _*_, _≤_, _<_};
 ghost use mathlib.Core.Path.{_≡_};
 ghost use mathlib.Core.Bool.{_||_};
 ghost use lib.Dec.{eqb};
-ghost use Rattle.rules.specs.State.{fresh};
-ghost use Rattle.state.specs.View.{shown, header-of, no-tally};
-ghost use Rattle.state.specs.Ready.{Shaped, Sized, Behind};
-ghost use Rattle.state.specs.Listed.{Listed};
+ghost use lib.ListN.{length, getD, set};
+ghost use Rattle.state.specs.Parts.{off, byte-sizes, hint-sizes, bytes, hints, store, MARK, CLAIM, STANDING, OWNER, PHASE, FAILED, RUNS, ORDER, PLACE, TAKEN, GONE, NODES, PLACED, MANY, LISTED};
+ghost use Rattle.state.specs.Slices.{slices};
+ghost use Rattle.state.specs.View.{placed};
+ghost use Rattle.state.specs.Ready.{Whole, Ready};
+ghost use Rattle.state.specs.Changes.{entering, joining, moving-on};
+ghost use Rattle.state.specs.Starts.{Blank, Starts};
 
-// Phases: 0 unused, 1 first run, 2 submitted, 3 second run, 4 committed, 5 dropped.
-pub struct Control {
-    pub nodes: u8,
-    pub sheets: u8,
-    // How many places the order has.
-    pub placed: u8,
-    pub owner: [u8; Session::SHEETS],
-    pub phase: [u8; Session::SAVES],
-    pub failed: [u8; Session::SAVES],
-    pub runs: [u8; Session::SAVES],
-    pub order: [u8; Session::SAVES],
-    pub place: [u8; Session::SAVES],
-    // How many places each node has taken.
-    pub taken: [u8; Session::NODES],
-}
+// The phases of a save.
+pub const UNUSED: u8 = 0;
 
-// Row t of `value`, `seen`, `mark` and `claim` is save t's, with a column for each sheet.
-// Marks: 0 no copy, 1 copied, 2 written. Claims: 0 none, 1 S, 2 X.
-// Row n of `standing` is node n's: 1 from the TAKE of a save with a sheet there to its APPLY.
-// The last three are hints, and no part of what the arrays show: how many places at the front of the order have no entry at each node any
-// more; the sheets that each save claims, a row for each, and how many they are.
-pub struct Session {
-    pub control: Control,
-    pub value: [u32; Session::COPIES],
-    pub seen: [u32; Session::COPIES],
-    pub mark: [u8; Session::COPIES],
-    pub claim: [u8; Session::COPIES],
-    pub standing: [u8; Session::STANDING],
-    pub content: [u32; Session::SHEETS],
-    pub wct: [u32; Session::SHEETS],
-    pub gone: [u8; Session::NODES],
-    pub listed: [u8; Session::COPIES],
-    pub many: [u8; Session::SAVES],
-}
+pub const FIRST_RUN: u8 = 1;
+
+pub const SUBMITTED: u8 = 2;
+
+pub const SECOND_RUN: u8 = 3;
+
+pub const COMMITTED: u8 = 4;
+
+pub const DROPPED: u8 = 5;
+
+// The marks of a save's own copies.
+pub const ABSENT: u8 = 0;
+
+pub const COPIED: u8 = 1;
+
+pub const WRITTEN: u8 = 2;
+
+// The claims: none, S, X.
+pub const UNCLAIMED: u8 = 0;
+
+pub const SHARED: u8 = 1;
+
+pub const EXCLUSIVE: u8 = 2;
+
+pub struct Session {}
 
 impl Session {
     // At most so many of each in one session.
@@ -53,43 +56,51 @@ impl Session {
     // Save numbers are below this, as sheet numbers are below the header's count.
     pub const SAVE_NUMBERS: u8 = 32;
 
+    // The sizes of the slices for as many sheets as a session may have.
+    pub const BYTES: usize = Session::OWNER + Session::SHEETS + 2 * Session::COPIES;
+
+    pub const LISTS: usize = Session::SAVES + Session::COPIES;
+
     // A row for each save with a column for each sheet.
     pub const COPIES: usize = Session::SAVES * Session::SHEETS;
 
-    // A row for each node with a column for each save.
-    pub const STANDING: usize = Session::NODES * Session::SAVES;
+    pub const STORE: usize = 2 * Session::SHEETS;
 
-    // New nodes with these sheets, and no save used.
-    pub fn fresh(nodes: u8, sheets: u8, owner: [u8; Session::SHEETS]) -> Session
-        ensures { λ r. ⌜ shown r no-tally ≡ fresh (header-of nodes sheets owner) ⌝ }
-        ensures kept { λ r. ⌜ Shaped (r .control) × Sized (r .value) (r .seen) (r .mark) (r .claim) (r .standing) (r .content) (r .wct) ⌝ }
-        ensures hints { λ r. ⌜ Behind (r .control .order) (r .standing) (r .control .taken) (r .gone) × Listed (r .control .sheets) (r .claim) (r .listed) (r .many) ⌝ }
-    {
-        Session {
-            control: Control {
-                nodes: nodes,
-                sheets: sheets,
-                placed: 0,
-                owner: owner,
-                phase: [0; Session::SAVES],
-                failed: [0; Session::SAVES],
-                runs: [0; Session::SAVES],
-                order: [0; Session::SAVES],
-                place: [0; Session::SAVES],
-                taken: [0; Session::NODES],
-            },
-            value: [0; Session::COPIES],
-            seen: [0; Session::COPIES],
-            mark: [0; Session::COPIES],
-            claim: [0; Session::COPIES],
-            standing: [0; Session::STANDING],
-            content: [0; Session::SHEETS],
-            wct: [0; Session::SHEETS],
-            gone: [0; Session::NODES],
-            listed: [0; Session::COPIES],
-            many: [0; Session::SAVES],
-        }
-    }
+    // Where the regions of the bytes start. Phases, failed marks, runs entered and places go by save, the order by place.
+    const PHASE: usize = 0;
+
+    const FAILED: usize = Session::PHASE + Session::SAVES;
+
+    const RUNS: usize = Session::FAILED + Session::SAVES;
+
+    const ORDER: usize = Session::RUNS + Session::SAVES;
+
+    const PLACE: usize = Session::ORDER + Session::SAVES;
+
+    // How many places each node has taken.
+    const TAKEN: usize = Session::PLACE + Session::SAVES;
+
+    // A hint: how many places at the front of the order have no entry at each node any more.
+    const GONE: usize = Session::TAKEN + Session::NODES;
+
+    const NODE_COUNT: usize = Session::GONE + Session::NODES;
+
+    // How many places the order has.
+    const PLACED: usize = Session::NODE_COUNT + 1;
+
+    // Row n is node n's: 1 from the TAKE of a save with a sheet there to its APPLY.
+    const STANDING: usize = Session::PLACED + 1;
+
+    // The owners, a byte for each sheet; behind them the marks and then the claims, a row for each save.
+    const OWNER: usize = Session::STANDING + Session::NODES * Session::SAVES;
+
+    // Where the counts start in the lists; behind them the sheets, a row for each save.
+    const MANY: usize = 0;
+
+    // The rows of `w`.
+    pub const CONTENT: usize = 0;
+
+    pub const WCT: usize = 1;
 }
 
 // What a node finds a save at its TAKE.
@@ -109,18 +120,282 @@ pub enum Answer {
     Refused(u8),
 }
 
-// What a step gives: its answer, and how many places the order has now.
-pub struct Stepped {
-    pub answer: Answer,
-    pub placed: u8,
-}
-
 // A save of phase p is in its first or second run.
 pub fn running(p: u8) -> bool
     ensures { λ r. ⌜ r ≡ (eqb p 1 || eqb p 3) ⌝ }
 {
-    if p == 1 {
+    if p == FIRST_RUN {
         return true;
     }
-    p == 3
+    p == SECOND_RUN
+}
+
+// ---- Rows, for the loops over one
+
+// Where save t's row of marks starts in the bytes.
+pub fn marks(m: usize, t: usize) -> usize
+    requires { ⌜ (m < 65536) × (t < 32) ⌝ }
+    ensures { λ r. ⌜ r ≡ off (byte-sizes m) MARK + t * m ⌝ }
+{
+    Session::OWNER + m + t * m
+}
+
+// Where save t's row of claims starts in the bytes.
+pub fn claims(m: usize, t: usize) -> usize
+    requires { ⌜ (m < 65536) × (t < 32) ⌝ }
+    ensures { λ r. ⌜ r ≡ off (byte-sizes m) CLAIM + t * m ⌝ }
+{
+    Session::OWNER + m + Session::SAVES * m + t * m
+}
+
+// Where save t's row starts in the lists.
+pub fn lists(m: usize, t: usize) -> usize
+    requires { ⌜ (m < 65536) × (t < 32) ⌝ }
+    ensures { λ r. ⌜ r ≡ off (hint-sizes m) LISTED + t * m ⌝ }
+{
+    Session::SAVES + t * m
+}
+
+// ---- What a command looks at
+
+// The phase of save t.
+pub fn phase(b: &[u8], m: usize, t: usize) -> u8
+    requires { ⌜ Whole (byte-sizes m) (bytes m (now b)) × (t < 32) ⌝ }
+    ensures { λ r. ⌜ r ≡ getD (bytes m (now (b .entry)) PHASE) t 0 ⌝ }
+{
+    b[Session::PHASE + t]
+}
+
+// 1 where save t is marked failed.
+pub fn failed(b: &[u8], m: usize, t: usize) -> u8
+    requires { ⌜ Whole (byte-sizes m) (bytes m (now b)) × (t < 32) ⌝ }
+    ensures { λ r. ⌜ r ≡ getD (bytes m (now (b .entry)) FAILED) t 0 ⌝ }
+{
+    b[Session::FAILED + t]
+}
+
+// How many runs save t has entered.
+pub fn runs(b: &[u8], m: usize, t: usize) -> u8
+    requires { ⌜ Whole (byte-sizes m) (bytes m (now b)) × (t < 32) ⌝ }
+    ensures { λ r. ⌜ r ≡ getD (bytes m (now (b .entry)) RUNS) t 0 ⌝ }
+{
+    b[Session::RUNS + t]
+}
+
+// The save at place q of the order.
+pub fn order(b: &[u8], m: usize, q: usize) -> u8
+    requires { ⌜ Whole (byte-sizes m) (bytes m (now b)) × (q < 32) ⌝ }
+    ensures { λ r. ⌜ r ≡ getD (bytes m (now (b .entry)) ORDER) q 0 ⌝ }
+{
+    b[Session::ORDER + q]
+}
+
+// Save t's place in the order.
+pub fn place(b: &[u8], m: usize, t: usize) -> u8
+    requires { ⌜ Whole (byte-sizes m) (bytes m (now b)) × (t < 32) ⌝ }
+    ensures { λ r. ⌜ r ≡ getD (bytes m (now (b .entry)) PLACE) t 0 ⌝ }
+{
+    b[Session::PLACE + t]
+}
+
+// How many places node n has taken.
+pub fn taken(b: &[u8], m: usize, n: usize) -> u8
+    requires { ⌜ Whole (byte-sizes m) (bytes m (now b)) × (n < 8) ⌝ }
+    ensures { λ r. ⌜ r ≡ getD (bytes m (now (b .entry)) TAKEN) n 0 ⌝ }
+{
+    b[Session::TAKEN + n]
+}
+
+// How many places node n has behind it.
+pub fn gone(b: &[u8], m: usize, n: usize) -> u8
+    requires { ⌜ Whole (byte-sizes m) (bytes m (now b)) × (n < 8) ⌝ }
+    ensures { λ r. ⌜ r ≡ getD (bytes m (now (b .entry)) GONE) n 0 ⌝ }
+{
+    b[Session::GONE + n]
+}
+
+// How many nodes there are.
+pub fn nodes(b: &[u8], m: usize) -> u8
+    requires { ⌜ Whole (byte-sizes m) (bytes m (now b)) ⌝ }
+    ensures { λ r. ⌜ r ≡ getD (bytes m (now (b .entry)) NODES) 0 0 ⌝ }
+{
+    b[Session::NODE_COUNT]
+}
+
+// How many places the order has.
+pub fn placed(b: &[u8], m: usize) -> u8
+    requires { ⌜ Whole (byte-sizes m) (bytes m (now b)) ⌝ }
+    ensures { λ r. ⌜ r ≡ getD (bytes m (now (b .entry)) PLACED) 0 0 ⌝ }
+{
+    b[Session::PLACED]
+}
+
+// 1 where save t has entries at node n.
+pub fn standing(b: &[u8], m: usize, n: usize, t: usize) -> u8
+    requires { ⌜ Whole (byte-sizes m) (bytes m (now b)) × (n < 8) × (t < 32) ⌝ }
+    ensures { λ r. ⌜ r ≡ getD (bytes m (now (b .entry)) STANDING) (n * 32 + t) 0 ⌝ }
+{
+    b[Session::STANDING + (n * Session::SAVES + t)]
+}
+
+// The node that owns sheet k.
+pub fn owner(b: &[u8], m: usize, k: usize) -> u8
+    requires { ⌜ Whole (byte-sizes m) (bytes m (now b)) × (k < m) ⌝ }
+    ensures { λ r. ⌜ r ≡ getD (bytes m (now (b .entry)) OWNER) k 0 ⌝ }
+{
+    b[Session::OWNER + k]
+}
+
+// Save t's mark of sheet k.
+pub fn mark(b: &[u8], m: usize, t: usize, k: usize) -> u8
+    requires { ⌜ Whole (byte-sizes m) (bytes m (now b)) × (t < 32) × (k < m) ⌝ }
+    ensures { λ r. ⌜ r ≡ getD (bytes m (now (b .entry)) MARK) (t * m + k) 0 ⌝ }
+{
+    b[Session::OWNER + m + (t * m + k)]
+}
+
+// Save t's claim on sheet k.
+pub fn claim(b: &[u8], m: usize, t: usize, k: usize) -> u8
+    requires { ⌜ Whole (byte-sizes m) (bytes m (now b)) × (t < 32) × (k < m) ⌝ }
+    ensures { λ r. ⌜ r ≡ getD (bytes m (now (b .entry)) CLAIM) (t * m + k) 0 ⌝ }
+{
+    b[Session::OWNER + m + Session::SAVES * m + (t * m + k)]
+}
+
+// How many sheets are listed for save t.
+pub fn many(listed: &[u16], m: usize, t: usize) -> u16
+    requires { ⌜ Whole (hint-sizes m) (hints m (now listed)) × (t < 32) ⌝ }
+    ensures { λ r. ⌜ r ≡ getD (hints m (now (listed .entry)) MANY) t 0 ⌝ }
+{
+    listed[Session::MANY + t]
+}
+
+// The sheet that is listed at i for save t.
+pub fn sheet_at(listed: &[u16], m: usize, t: usize, i: usize) -> u16
+    requires { ⌜ Whole (hint-sizes m) (hints m (now listed)) × (t < 32) × (i < m) ⌝ }
+    ensures { λ r. ⌜ r ≡ getD (hints m (now (listed .entry)) LISTED) (t * m + i) 0 ⌝ }
+{
+    listed[Session::SAVES + (t * m + i)]
+}
+
+// Row x, sheet k, of a table of numbers: a save's row of `value` or `seen`, or one of the two of `w`.
+pub fn cell(l: &[u32], m: usize, x: usize, k: usize) -> u32
+    requires { ⌜ (x * m + m ≤ length (now l)) × (k < m) ⌝ }
+    ensures { λ r. ⌜ r ≡ getD (now (l .entry)) (x * m + k) 0 ⌝ }
+{
+    l[x * m + k]
+}
+
+// ---- What a command changes
+
+// Save t's phase becomes p.
+pub fn set_phase(b: &mut [u8], m: usize, t: usize, p: u8)
+    requires { ⌜ Whole (byte-sizes m) (bytes m (now b)) × (t < 32) ⌝ }
+    ensures { λ _. ⌜ bytes m (now (b .exit)) ≡ store (bytes m (now (b .entry))) PHASE t p ⌝ }
+{
+    b[Session::PHASE + t] = p;
+}
+
+// Save t enters a run: one more, and p is its phase.
+pub fn enter_run(b: &mut [u8], m: usize, t: usize, p: u8)
+    requires { ⌜ Ready m (bytes m (now b)) × (t < 32) ⌝ }
+    ensures { λ _. ⌜ bytes m (now (b .exit)) ≡ entering (bytes m (now (b .entry))) t p ⌝ }
+{
+    let r = b[Session::RUNS + t];
+    b[Session::PHASE + t] = p;
+    b[Session::RUNS + t] = r + 1;
+}
+
+// Save t is marked failed.
+pub fn fail(b: &mut [u8], m: usize, t: usize)
+    requires { ⌜ Whole (byte-sizes m) (bytes m (now b)) × (t < 32) ⌝ }
+    ensures { λ _. ⌜ bytes m (now (b .exit)) ≡ store (bytes m (now (b .entry))) FAILED t 1 ⌝ }
+{
+    b[Session::FAILED + t] = 1;
+}
+
+// Save t joins the end of the order.
+pub fn join(b: &mut [u8], m: usize, t: u8)
+    requires { ⌜ Whole (byte-sizes m) (bytes m (now b)) × (t < 32) × (placed (bytes m (now b)) < 32) ⌝ }
+    ensures { λ _. ⌜ bytes m (now (b .exit)) ≡ joining (bytes m (now (b .entry))) t ⌝ }
+{
+    let p = b[Session::PLACED];
+    b[Session::ORDER + (p as usize)] = t;
+    b[Session::PLACE + (t as usize)] = p;
+    b[Session::PLACED] = p + 1;
+}
+
+// Node n has taken one place more.
+pub fn move_on(b: &mut [u8], m: usize, n: usize)
+    requires { ⌜ Whole (byte-sizes m) (bytes m (now b)) × (n < 8) × (getD (bytes m (now b) TAKEN) n 0 < 32) ⌝ }
+    ensures { λ _. ⌜ bytes m (now (b .exit)) ≡ moving-on (bytes m (now (b .entry))) n ⌝ }
+{
+    let p = b[Session::TAKEN + n];
+    b[Session::TAKEN + n] = p + 1;
+}
+
+// Node n has g places behind it.
+pub fn set_gone(b: &mut [u8], m: usize, n: usize, g: u8)
+    requires { ⌜ Whole (byte-sizes m) (bytes m (now b)) × (n < 8) ⌝ }
+    ensures { λ _. ⌜ bytes m (now (b .exit)) ≡ store (bytes m (now (b .entry))) GONE n g ⌝ }
+{
+    b[Session::GONE + n] = g;
+}
+
+// Save t has entries at node n, if e is 1, or none, if it is 0.
+pub fn set_standing(b: &mut [u8], m: usize, n: usize, t: usize, e: u8)
+    requires { ⌜ Whole (byte-sizes m) (bytes m (now b)) × (n < 8) × (t < 32) ⌝ }
+    ensures { λ _. ⌜ bytes m (now (b .exit)) ≡ store (bytes m (now (b .entry))) STANDING (n * 32 + t) e ⌝ }
+{
+    b[Session::STANDING + (n * Session::SAVES + t)] = e;
+}
+
+// Save t's mark of sheet k becomes v.
+pub fn set_mark(b: &mut [u8], m: usize, t: usize, k: usize, v: u8)
+    requires { ⌜ Whole (byte-sizes m) (bytes m (now b)) × (t < 32) × (k < m) ⌝ }
+    ensures { λ _. ⌜ bytes m (now (b .exit)) ≡ store (bytes m (now (b .entry))) MARK (t * m + k) v ⌝ }
+{
+    b[Session::OWNER + m + (t * m + k)] = v;
+}
+
+// So many sheets are listed for save t.
+pub fn set_many(listed: &mut [u16], m: usize, t: usize, c: u16)
+    requires { ⌜ Whole (hint-sizes m) (hints m (now listed)) × (t < 32) ⌝ }
+    ensures { λ _. ⌜ hints m (now (listed .exit)) ≡ store (hints m (now (listed .entry))) MANY t c ⌝ }
+{
+    listed[Session::MANY + t] = c;
+}
+
+// Row x, sheet k, of a table of numbers becomes v.
+pub fn set_cell(l: &mut [u32], m: usize, x: usize, k: usize, v: u32)
+    requires { ⌜ (x * m + m ≤ length (now l)) × (k < m) ⌝ }
+    ensures { λ _. ⌜ now (l .exit) ≡ set (now (l .entry)) (x * m + k) v ⌝ }
+{
+    l[x * m + k] = v;
+}
+
+// ---- The start
+
+impl Session {
+    // New nodes with these sheets, each with its owner, and no save used: what slices of zeros become.
+    pub fn fresh(
+        b: &mut [u8],
+        listed: &[u16],
+        value: &[u32],
+        seen: &[u32],
+        w: &[u32],
+        nodes: u8,
+        owners: &[u8],
+    )
+        requires { ⌜ Blank (length (now owners)) (slices (now b) (now listed) (now value) (now seen) (now w)) ⌝ }
+        ensures { λ _. ⌜ Starts nodes (now (owners .entry)) (slices (now (b .exit)) (now (listed .entry)) (now (value .entry)) (now (seen .entry)) (now (w .entry))) ⌝ }
+    {
+        b[Session::NODE_COUNT] = nodes;
+        let m = owners.len();
+        let mut k: usize = 0;
+        while k < m {
+            b[Session::OWNER + k] = owners[k];
+            k += 1;
+        }
+    }
 }

@@ -7,7 +7,7 @@ use lib.ListN.{getD}
 use Rattle.rules.specs.Report.{sheet-line, sheet-lines}
 use Rattle.text.specs.Lines.{sheets-of}
 
-module _ (content wct : List ℕ) (k : ℕ) where
-  pub sheet-more : sheet-lines (sheets-of content wct) k ++ sheet-line k (getD content k 0) (getD wct k 0) ≡ sheet-lines (sheets-of content wct) (k + 1)
+module _ (m : ℕ) (w : List ℕ) (k : ℕ) where
+  pub sheet-more : sheet-lines (sheets-of m w) k ++ sheet-line k (getD w k 0) (getD w (m + k) 0) ≡ sheet-lines (sheets-of m w) (k + 1)
   unfolding sheet-lines
   sheet-more = rw add-one

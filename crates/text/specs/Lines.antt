@@ -1,12 +1,13 @@
--- The rules' sheets and tally, from the arrays and numbers that the writers are lent, and parts of lines.
-use Prim.Native.Nat.{ℕ}
+-- The rules' sheets and tally, from the slice and numbers that the writers are given, and parts of lines.
+use Prim.Native.Nat.{ℕ, _+_}
 use mathlib.Core.List.{List, [], _∷_, _++_}
 use lib.ListN.{getD}
 use Rattle.rules.specs.State.{Sheet, Tally}
 use Rattle.rules.specs.Report.{field, line-end}
 
-abbrev pub sheets-of : (content wct : List ℕ) → ℕ → Sheet
-sheets-of content wct k = record { content = getD content k 0; wct = getD wct k 0 }
+-- the contents of m sheets and, behind these, their WCTs
+abbrev pub sheets-of : (m : ℕ) → (w : List ℕ) → ℕ → Sheet
+sheets-of m w k = record { content = getD w k 0; wct = getD w (m + k) 0 }
 
 abbrev pub tally-of : (accepted first second : ℕ) → Tally
 tally-of a f s = record { accepted = a; from-first = f; from-second = s }

@@ -81,24 +81,19 @@ pub fn refusal_line(buf: &mut [u8], at: usize, p: u32, c: u8) -> usize
     put(buf, e, 10)
 }
 
-// The O lines of the first `m` sheets.
-pub fn sheet_lines(
-    buf: &mut [u8],
-    at: usize,
-    content: &[u32; 64],
-    wct: &[u32; 64],
-    m: usize,
-) -> usize
-    requires { ⌜ (m ≤ 64) × (at + 35 * m ≤ length (now buf)) ⌝ }
+// The O lines of `m` sheets. `w` has their contents and, behind these, their WCTs.
+pub fn sheet_lines(buf: &mut [u8], at: usize, w: &[u32], m: usize) -> usize
+    requires { ⌜ (m < 65536) × (2 * m ≤ length (now w)) × (at + 35 * m ≤ length (now buf)) ⌝ }
     ensures { λ r. ⌜
-        Wrote (now (buf .entry)) at (rules.sheet-lines (sheets-of (now (content .entry)) (now (wct .entry))) m) (35 * m) r
+        Wrote (now (buf .entry)) at (rules.sheet-lines (sheets-of m (now (w .entry))) m) (35 * m) r
         (now (buf .exit))
         ⌝ }
 {
     let mut e = at;
     let mut k: usize = 0;
     while k < m {
-        e = three_line(buf, e, b'O', k as u32, content[k], wct[k]);
+        let i = m + k;
+        e = three_line(buf, e, b'O', k as u32, w[k], w[i]);
         k += 1;
     }
     e

@@ -1,20 +1,20 @@
 -- The header in the terms of the code: the owners, and what a session that opens has.
-use mathlib.Core.Path.{_≡_, refl, sym, ap, _∙_}
+use mathlib.Core.Path.{_≡_, sym}
 use mathlib.Core.Bool.{Bool, true, false, _&&_, and-false}
-use mathlib.Core.List.{List, [], _∷_, _++_}
-use Prim.Native.Nat.{ℕ, zero, suc, _+_, _-_, _≤_, _<_}
+use mathlib.Core.List.{List}
+use Prim.Native.Nat.{ℕ, zero, suc, _+_, _≤_, _<_}
 use native.Mathlib.Numerals.{add-one}
 use native.Mathlib.Omega.{arith}
-use borrow.Author.Tests.{le-leb, leb-true, ltb-true, ltb-false, eqb-true, eqb-false}
+use borrow.Author.Tests.{le-leb, leb-true, ltb-true, eqb-true, eqb-false}
 use lib.Dec.{leb, ltb, eqb}
-use lib.ListN.{length, getD, take, drop, set, length-take, length-append, List·getD-eq-default, List·getD-append}
-use lib.Seq.{getD-take, getD-drop, take-suc-set, getD-append-seam}
+use lib.ListN.{length, take, drop, length-take, length-drop, List·getD-eq-default}
+use lib.Seq.{getD-take, getD-drop}
 use Rattle.rules.specs.Table.{all}
-use Rattle.rules.proofs.Table.{bool, and-l, and-r, all-at}
+use Rattle.rules.proofs.Table.{bool, below?, and-l, and-r, all-at}
 use Rattle.rules.specs.Sizes.{max-nodes, max-sheets, max-session}
 use Rattle.rules.specs.Bytes.{byte, header, header-size, opens}
 use Rattle.wire.specs.declared.Opened.the-variants.{Header, Bad}
-use Rattle.wire.specs.Meaning.{opened, table, owners-of}
+use Rattle.wire.specs.Meaning.{opened}
 
 -- ---- Tests over the numbers below a bound
 
@@ -98,36 +98,19 @@ module _ (b : List ℕ) (k : ℕ) where
   pub owner-beyond : byte b 1 ≤ k → 0 ≡ header b .owner k
   owner-beyond h = sym (List·getD-eq-default (take (byte b 1) (drop 2 b)) 0 (rw length-take (omega arith)))
 
-pub table-more : (f : ℕ → ℕ) (l : List ℕ) (k v : ℕ) → k < length l → v ≡ f k → take k l ≡ table f k → take (k + 1) (set l k v) ≡ table f (k + 1)
-unfolding table
-table-more f l k v h e t = rw (add-one, take-suc-set l k v h, t, e)
-
-length-table : (f : ℕ → ℕ) (n : ℕ) → length (table f n) ≡ n
-unfolding table
-length-table f zero = refl
-length-table f (suc n) = rw length-append (omega (arith, length-table f n))
-
-table-at : (f : ℕ → ℕ) (n k : ℕ) → k < n → getD (table f n) k 0 ≡ f k
-unfolding table
-table-at f zero k h = absurd (omega arith)
-table-at f (suc n) k h =
-    let l = length-table f n in
-    bool (eqb k n)
-    (λ t. rw (eqb-true k n t) (ap (λ (i : ℕ). getD (table f n ++ f n ∷ []) i 0) (sym l) ∙ getD-append-seam (table f n) (f n) [] 0))
-    (λ t.
-    let d = eqb-false k n t in
-    List·getD-append (table f n) (f n ∷ []) 0 k (omega arith) ∙ table-at f n k (omega arith))
-
--- of a session that opens these are all owners
-pub owners-at : (b : List ℕ) → opens b ≡ true → (k : ℕ) → getD (owners-of b) k 0 ≡ header b .owner k
-owners-at b e k =
+-- a session that opens has a byte for each sheet's owner
+pub owners-length : (b : List ℕ) → opens b ≡ true → length (take (byte b 1) (drop 2 b)) ≡ byte b 1
+owners-length b e =
     let h = opens-has b e .0 in
-    bool (ltb k 64)
-    (λ t. table-at (header b .owner) 64 k (ltb-true k 64 t))
-    (λ t.
-    let l = ltb-false k 64 t in
-    List·getD-eq-default (owners-of b) 0 (omega (arith, length-table (header b .owner) 64)) ∙ owner-beyond b k (omega arith))
+    rw (length-take, length-drop) (omega arith)
 
 -- and each sheet's owner is a node
 pub owner-below : (b : List ℕ) → opens b ≡ true → (k : ℕ) → k < byte b 1 → header b .owner k < byte b 0
 owner-below b e k h = ltb-true _ _ (all-at (byte b 1) (owned b) (opens-has b e .1) k h)
+
+-- below the limit on nodes at any number, since 0 stands beyond the sheets
+pub owner-small : (b : List ℕ) → opens b ≡ true → (k : ℕ) → header b .owner k < max-nodes
+owner-small b e k =
+    below? k (byte b 1)
+    (λ l. omega (arith, owner-below b e k l, opens-has b e .0 .nodes))
+    (λ l. omega (arith, owner-beyond b k l))

@@ -1,7 +1,7 @@
 -- What the reader's types mean in the rules.
-use Prim.Native.Nat.{ℕ, zero, suc, _+_}
+use Prim.Native.Nat.{ℕ}
 use mathlib.Core.Bool.{cond}
-use mathlib.Core.List.{List, [], _∷_, _++_}
+use mathlib.Core.List.{List, [], _∷_}
 use mathlib.Core.Option.{Option, none, some}
 use Rattle.rules.specs.Bytes as rules
 use Rattle.wire.specs.declared.Command.{Command}
@@ -14,7 +14,7 @@ use Rattle.wire.specs.declared.Opened.the-variants.{Header, Bad}
 abbrev pub command-of : Command → rules.Command
 command-of (Begin t) = rules.Begin t
 command-of (Read t k) = rules.Read t k
-command-of (Write t k v) = rules.Write t k v
+command-of (Write t v k) = rules.Write t k v
 command-of (Submit t) = rules.Submit t
 command-of (Take n) = rules.Take n
 command-of (Decide t) = rules.Decide t
@@ -47,19 +47,10 @@ contents a b c d = rules.big-endian (a ∷ b ∷ c ∷ d ∷ [])
 abbrev pub write-of : List ℕ → Command
 write-of s =
     let at : ℕ → ℕ = rules.byte s in
-    Write (at 0) (at 1) (contents (at 2) (at 3) (at 4) (at 5))
+    Write (at 0) (contents (at 2) (at 3) (at 4) (at 5)) (at 1)
 
 -- ---- The header
 
 -- Bad is refusal 1
 unfoldable pub opened : List ℕ → Opened
 opened b = cond (rules.opens b) (Header (rules.byte b 0) (rules.byte b 1)) Bad
-
--- f 0, f 1 and so on, n of them
-unfoldable pub table : (ℕ → ℕ) → ℕ → List ℕ
-table f zero = []
-table f (suc n) = table f n ++ f n ∷ []
-
--- a session that opens has no more sheets than these
-abbrev pub owners-of : List ℕ → List ℕ
-owners-of b = table (rules.header b .owner) 64

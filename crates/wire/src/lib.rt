@@ -6,20 +6,21 @@ ghost use lib.ListN.{length};
 ghost use lib.Dec.{ltb};
 ghost use Rattle.rules.specs.Table.{all};
 ghost use Rattle.rules.specs.Bytes as rules;
-ghost use Rattle.wire.specs.Meaning.{front-of, front-in, operand-bytes, contents, write-of, opened, owners-of};
+ghost use Rattle.wire.specs.Meaning.{front-of, front-in, operand-bytes, contents, write-of, opened};
 
 // The sizes of one session, which `read_header` tests.
 const MAX_SESSION: usize = 16384;
 
 const MAX_NODES: u8 = 8;
 
-const MAX_SHEETS: u8 = 64;
+const MAX_SHEETS: u16 = 64;
 
-// A command with its operands, as they stand in the bytes.
+// A command with its operands. A sheet number, one byte in a session, has 16 bits from here on. WRITE's content stands before its sheet: a
+// command of eight bytes would be moved as one number, and taken apart again in every arm of a step.
 pub enum Command {
     Begin(u8),
-    Read(u8, u8),
-    Write(u8, u8, u32),
+    Read(u8, u16),
+    Write(u8, u32, u16),
     Submit(u8),
     Take(u8),
     Decide(u8),
@@ -38,7 +39,7 @@ pub enum Next {
 
 // Whether a session opens, with its node count and its sheet count.
 pub enum Opened {
-    Header(u8, u8),
+    Header(u8, u16),
     Bad,
 }
 
@@ -71,7 +72,8 @@ fn write(s: &[u8]) -> Command
     requires { ⌜ 6 ≤ length (now s) ⌝ }
     ensures { λ r. ⌜ r ≡ write-of (now (s .entry)) ⌝ }
 {
-    Command::Write(s[0], s[1], content(s[2], s[3], s[4], s[5]))
+    let k = s[1] as u16;
+    Command::Write(s[0], content(s[2], s[3], s[4], s[5]), k)
 }
 
 // The command of a command byte with its operands behind it. Each arm names its width: a table's answer would be waited for at every command.
@@ -81,7 +83,7 @@ fn decoded(b: u8, s: &[u8]) -> Next
 {
     match b {
         1 => Next::Step(Command::Begin(s[0]), 1),
-        2 => Next::Step(Command::Read(s[0], s[1]), 2),
+        2 => Next::Step(Command::Read(s[0], s[1] as u16), 2),
         3 => Next::Step(write(s), 6),
         4 => Next::Step(Command::Submit(s[0]), 1),
         5 => Next::Step(Command::Take(s[0]), 1),
@@ -148,7 +150,7 @@ pub fn read_header(session: &[u8]) -> Opened
     ensures { λ r. ⌜ r ≡ opened (now (session .entry)) ⌝ }
 {
     let n = byte_at(session, 0);
-    let m = byte_at(session, 1);
+    let m = byte_at(session, 1) as u16;
     if MAX_SESSION < session.len() {
         return Opened::Bad;
     }
@@ -171,17 +173,4 @@ pub fn read_header(session: &[u8]) -> Opened
         return Opened::Header(n, m);
     }
     Opened::Bad
-}
-
-// The owners of 64 sheets, 0 beyond the sheet count.
-pub fn owners(session: &[u8]) -> [u8; 64]
-    ensures { λ r. ⌜ r ≡ owners-of (now (session .entry)) ⌝ }
-{
-    let mut owner = [0u8; 64];
-    let mut k: usize = 0;
-    while k < 64 {
-        owner[k] = owner_of(session, k);
-        k += 1;
-    }
-    owner
 }

@@ -1,26 +1,23 @@
 -- The worked session's states: antt computes at each what a step may rely on, and a step leads from one to the next.
 use Prim.Native.Nat.{ℕ, _+_, _<_}
 use mathlib.Core.Path.{_≡_, refl, sym, ap, subst, _∙_}
-use mathlib.Core.Bool.{Bool, true, false, not, _||_, true≢false}
+use mathlib.Core.Bool.{Bool, true, not}
 use native.Mathlib.Numerals.{add-one}
 use lib.ListN.{length}
 use lib.Dec.{eqb, leb, ltb}
 use borrow.Author.Tests.{ltb-true, leb-true, eqb-true, not-true}
 use Rattle.rules.specs.Table.{upd, upd2, row, all, any}
 use Rattle.rules.specs.Bytes.{Command}
-use Rattle.rules.specs.State.{Tally, State, is-first, claims, fresh}
+use Rattle.rules.specs.State.{Tally, State, is-first, fresh}
 use Rattle.rules.specs.Steps.{x-on, step}
 use Rattle.rules.proofs.Table.{all-at}
 use Rattle.state.specs.declared.Answer.{Answer}
 use Rattle.rules.proofs.Places.{at}
-use Rattle.state.specs.View.{advanced, Steps}
+use Rattle.state.specs.View.{advanced}
+use Rattle.state.specs.Lent.{Steps}
 use Rattle.state.specs.Ready.{Known}
 use Rattle.state.proofs.Steps.{state-stepped}
 use Rattle.worked.specs.Worked.{command-at, state-after}
-
-implied : (a b : Bool) → not a || b ≡ true → a ≡ true → b ≡ true
-implied true b e f = e
-implied false b e f = absurd (true≢false (sym f))
 
 -- a test that antt computes at every state
 once-each : (f : State → Bool) → all 17 (λ n. f (state-after n)) ≡ true → (n : ℕ) → n < 17 → f (state-after n) ≡ true
@@ -31,11 +28,6 @@ each : (bound : State → ℕ) (f : State → ℕ → Bool) → all 17 (λ n. al
     → (n : ℕ) → n < 17 → (i : ℕ) → i < bound (state-after n) → f (state-after n) i ≡ true
 each bound f e n h = all-at (bound (state-after n)) (f (state-after n)) (all-at 17 (λ m. all (bound (state-after m)) (f (state-after m))) e n h)
 
--- and of every save and sheet
-each-sheet : (f : State → ℕ → ℕ → Bool) → all 17 (λ n. all 32 (λ t. all 64 (f (state-after n) t))) ≡ true
-    → (n : ℕ) → n < 17 → (t k : ℕ) → t < 32 → k < 64 → f (state-after n) t k ≡ true
-each-sheet f e n h t k t32 k64 = all-at 64 (f (state-after n) t) (each (λ s. 32) (λ s t. all 64 (f s t)) e n h t t32) k k64
-
 module _ (n : ℕ) (h : n < 17) where
   abbrev s : State
   s = state-after n
@@ -44,16 +36,15 @@ module _ (n : ℕ) (h : n < 17) where
   unfolding all any upd upd2 row x-on fresh state-after
   known-after = record {
     nodes8 = leb-true (s .header .nodes) 8 (once-each (λ s. leb (s .header .nodes) 8) refl n h);
-    sheets64 = leb-true (s .header .sheets) 64 (once-each (λ s. leb (s .header .sheets) 64) refl n h);
-    owners = λ k l. ltb-true (s .header .owner k) 8 (each (λ s. 64) (λ s k. ltb (s .header .owner k) 8) refl n h k l);
+    sheets16 = ltb-true (s .header .sheets) 65536 (once-each (λ s. ltb (s .header .sheets) 65536) refl n h);
+    owners = λ k l. ltb-true (s .header .owner k) 8 (each (λ s. s .header .sheets) (λ s k. ltb (s .header .owner k) 8) refl n h k l);
     takens = λ m l. leb-true (s .taken m) (length (s .order)) (each (λ s. 8) (λ s m. leb (s .taken m) (length (s .order))) refl n h m l);
     small = λ q l. ltb-true (at (s .order) q) 32 (each (λ s. length (s .order)) (λ s q. ltb (at (s .order) q) 32) refl n h q l);
     once = λ q l. eqb-true (s .place (at (s .order) q)) q (each (λ s. length (s .order)) (λ s q. eqb (s .place (at (s .order) q)) q) refl n h q l);
     joined = λ q l. not-true (is-first (s .phase (at (s .order) q))) (each (λ s. length (s .order)) (λ s q. not (is-first (s .phase (at (s .order) q)))) refl n h q l);
     room = λ t l f. ltb-true (length (s .order)) 32 (once-each (λ s. ltb (length (s .order)) 32) refl n h);
     runs = λ t l. ltb-true (s .runs t) 255 (each (λ s. 32) (λ s t. ltb (s .runs t) 255) refl n h t l);
-    rises = λ k l. ltb-true (s .sheet k .wct) 4294967295 (each (λ s. 64) (λ s k. ltb (s .sheet k .wct) 4294967295) refl n h k l);
-    claimed = λ t k t32 k64 e. ltb-true k (s .header .sheets) (implied (claims (s .claim t k)) (ltb k (s .header .sheets)) (each-sheet (λ s t k. not (claims (s .claim t k)) || ltb k (s .header .sheets)) refl n h t k t32 k64) e);
+    rises = λ k l. ltb-true (s .sheet k .wct) 4294967295 (each (λ s. s .header .sheets) (λ s k. ltb (s .sheet k .wct) 4294967295) refl n h k l);
   }
 
 -- one step on

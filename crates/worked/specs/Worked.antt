@@ -1,7 +1,7 @@
 -- The worked session: its commands, and the rules' state after the first of them.
 use Prim.Native.Nat.{ℕ, zero, suc}
 use mathlib.Core.List.{List, [], _∷_}
-use lib.ListN.{getD, set, replicate}
+use lib.ListN.{getD}
 use Rattle.rules.specs.Bytes.{Header, Command, Begin, Read, Write, Submit, Take, Decide, Apply, GiveUp}
 use Rattle.rules.specs.State.{State, fresh}
 use Rattle.rules.specs.Steps.{step}
@@ -15,9 +15,9 @@ commands =
 abbrev pub command-at : ℕ → Command
 command-at i = getD commands i (GiveUp 0)
 
--- sheet 1 stands at node 1, as the array of owners says
+-- sheet 0 stands at node 0, sheet 1 at node 1
 abbrev pub header : Header
-header = header-of 2 2 (set (replicate 64 0) 1 1)
+header = header-of 2 2 (0 ∷ 1 ∷ [])
 
 -- the state after n commands
 unfoldable pub state-after : ℕ → State

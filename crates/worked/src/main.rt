@@ -19,8 +19,8 @@ fn command(i: usize) -> Command
         1 => Command::Begin(1),
         2 => Command::Read(0, 0),
         3 => Command::Read(1, 0),
-        4 => Command::Write(0, 0, 7),
-        5 => Command::Write(1, 0, 9),
+        4 => Command::Write(0, 7, 0),
+        5 => Command::Write(1, 9, 0),
         6 => Command::Submit(0),
         7 => Command::Submit(1),
         8 => Command::Take(0),
@@ -29,7 +29,7 @@ fn command(i: usize) -> Command
         11 => Command::Apply(0, 0),
         12 => Command::Decide(1),
         13 => Command::Read(1, 0),
-        14 => Command::Write(1, 0, 9),
+        14 => Command::Write(1, 9, 0),
         15 => Command::Submit(1),
         _ => Command::Apply(0, 1),
     }
@@ -74,59 +74,18 @@ fn print(a: Answer) {
 
 // Sheet 0 stands at node 0, sheet 1 at node 1.
 fn run() {
-    let mut owner = [0u8; 64];
-    owner[1] = 1;
-    let s = Session::fresh(2, 2, owner);
-    let d = s.control;
-    let nodes = d.nodes;
-    let sheets = d.sheets;
-    let mut placed = d.placed;
-    let owners = d.owner;
-    let mut phase = d.phase;
-    let mut failed = d.failed;
-    let mut runs = d.runs;
-    let mut order = d.order;
-    let mut place = d.place;
-    let mut taken = d.taken;
-    let mut gone = s.gone;
-    let mut value = s.value;
-    let mut seen = s.seen;
-    let mut mark = s.mark;
-    let mut claim = s.claim;
-    let mut listed = s.listed;
-    let mut many = s.many;
-    let mut standing = s.standing;
-    let mut content = s.content;
-    let mut wct = s.wct;
+    let mut b = [0u8; Session::BYTES];
+    let mut listed = [0u16; Session::LISTS];
+    let mut value = [0u32; Session::COPIES];
+    let mut seen = [0u32; Session::COPIES];
+    let mut w = [0u32; Session::STORE];
+    let owners: [u8; 2] = [0, 1];
+    Session::fresh(&mut b, &listed, &value, &seen, &w, 2, &owners);
     let mut i: usize = 0;
     while i < 17 {
         let c = command(i);
-        let r = engine::step(
-            nodes,
-            sheets,
-            placed,
-            &owners,
-            &mut phase,
-            &mut failed,
-            &mut runs,
-            &mut order,
-            &mut place,
-            &mut taken,
-            &mut gone,
-            &mut value,
-            &mut seen,
-            &mut mark,
-            &mut claim,
-            &mut listed,
-            &mut many,
-            &mut standing,
-            &mut content,
-            &mut wct,
-            c,
-        );
-        let a = r.answer;
+        let a = engine::step(&mut b, &mut listed, &mut value, &mut seen, &mut w, 2, c);
         print(a);
-        placed = r.placed;
         i += 1;
     }
 }

@@ -1,10 +1,12 @@
--- A refusal by the first tests, the answer from an own copy, the refusal for an X in front, and the answer from a new copy.
+-- A refusal for each test, the own copy, or the effect.
 use mathlib.Core.Path.{sym, _∙_}
 use native.Mathlib.Omega.{arith}
-use lib.ListN.{getD, length-set}
-use Rattle.state.specs.View.{control}
-use Rattle.queues.proofs.Taken.{walk-taken}
-use Rattle.copies.proofs.Tables.{in-range, claims-least, read-barred, read-own, read-6, read-new}
+use Rattle.state.specs.Parts.{bytes, CONTENT, WCT, MARK}
+use Rattle.state.specs.Lent.{reading}
+use Rattle.state.proofs.Stores.{flat-in}
+use Rattle.state.proofs.Lent.{keeps-same}
+use Rattle.copies.proofs.Tables.{in-range, claims-least, read-barred, read-6, read-own, read-new}
+use Rattle.copies.proofs.Kept.{row-in, keeps-reading}
 use borrow.Author.Needs.{needs}
 use Rattle.copies.proofs.read.Statement.{statement}
 use Rattle.copies.proofs.read.Tie as tie
@@ -12,113 +14,86 @@ use Rattle.copies.proofs.read.Tie as tie
 barred-requires : tie.Need-barred-requires
 barred-requires c κs = search needs
 
+same-length : tie.Need-same-length
+same-length c = search needs
+
 returns : tie.Need-returns
-returns c =
-    let s = c .before .before in
-    let a = s .args in (
-      (λ nodes placed failed runs place once.
-          read-barred (control nodes (a .sheets) placed (a .owner .now) (a .phase .now) failed runs (a .order .now) place (a .taken .now)) (a .value .now) (a .seen .now) (a .mark .now) (a .claim .now) (a .standing .now) (a .content .now) (a .wct .now) (a .t) (a .k) _ (s .pre .0 .sheets64)
-          (c .before .barred .ensures) claims-least (c .if1 .taken)),
-      search needs,
-    )
+returns c = let s = c .before .before .before .before .before .before .before in
+    (λ x. read-barred (s .args .m) (bytes (s .args .m) (s .args .b .now)) (s .args .value .now) (s .args .seen .now) (s .args .w .now) (s .args .t) (s .args .k) 1 (c .before .barred .ensures) claims-least (c .if1 .taken), keeps-same (reading (s .args .b .now) (s .args .value .now) (s .args .seen .now) (s .args .w .now)))
 
-mul-i : tie.Need-mul-i
-mul-i c = search needs
+mark-requires : tie.Need-mark-requires
+mark-requires c κs = let s = c .before .before .before .before .before .before .before .before in
+    let i = in-range (s .args .m) (bytes (s .args .m) (s .args .b .now)) (s .args .t) (s .args .k) 1 (c .before .before .barred .ensures) (c .before .if1 .left) in
+    (s .pre .0 .shaped .whole, i .0, i .1)
 
-add-i : tie.Need-add-i
-add-i c = search needs
+cell-requires : tie.Need-cell-requires
+cell-requires c κs = let s = c .before .before .before .before .before .before .before .before .before .before .before in
+    let i = in-range (s .args .m) (bytes (s .args .m) (s .args .b .now)) (s .args .t) (s .args .k) 1 (c .before .before .before .before .before .barred .ensures) (c .before .before .before .before .if1 .left) in
+    (row-in 32 (s .args .m) (s .args .value .now) (s .args .t) (i .0) (s .pre .2), i .1)
 
-element-copy-out-m : tie.Need-element-copy-out-m
-element-copy-out-m c = let z = in-range _ _ _ _ _ _ (c .before .barred .ensures) (c .if1 .left) in omega arith
+same-length-2 : tie.Need-same-length-2
+same-length-2 c = search needs
 
-mul-v : tie.Need-mul-v
-mul-v c = search needs
-
-element-copy-out-v : tie.Need-element-copy-out-v
-element-copy-out-v c = let z = in-range _ _ _ _ _ _ (c .before .before .before .barred .ensures) (c .before .before .if1 .left) in omega arith
+same-length-3 : tie.Need-same-length-3
+same-length-3 c = search needs
 
 returns-2 : tie.Need-returns-2
-returns-2 c =
-    let s = c .before .before .before .before .before in
-    let a = s .args in (
-      (λ nodes placed failed runs place once.
-          read-own (control nodes (a .sheets) placed (a .owner .now) (a .phase .now) failed runs (a .order .now) place (a .taken .now)) (a .value .now) (a .seen .now) (a .mark .now) (a .claim .now) (a .standing .now) (a .content .now) (a .wct .now) (a .t) (a .k) _ (s .pre .0 .sheets64)
-          (c .before .before .before .before .barred .ensures) claims-least (c .before .before .before .if1 .left) (c .before .if2 .taken)),
-      search needs,
-    )
+returns-2 c = let s = c .before .before .before .before .before .before .before .before .before .before .before .before in
+    (λ x. rw (c .cell .ensures) (read-own (s .args .m) (bytes (s .args .m) (s .args .b .now)) (s .args .value .now) (s .args .seen .now) (s .args .w .now) (s .args .t) (s .args .k) 1 (c .before .before .before .before .before .before .barred .ensures) claims-least (c .before .before .before .before .before .if1 .left) (λ q. c .before .before .if2 .taken (c .before .before .before .mark .ensures ∙ q))), keeps-same (reading (s .args .b .now) (s .args .value .now) (s .args .seen .now) (s .args .w .now)))
 
-element-copy-out-n : tie.Need-element-copy-out-n
-element-copy-out-n c = omega (arith, in-range _ _ _ _ _ _ (c .before .before .before .barred .ensures) (c .before .before .if1 .left), c .before .before .before .before .pre .0 .sheets64)
-
-cast-n : tie.Need-cast-n
-cast-n c = omega (arith, c .before .before .before .before .before .pre .0 .owners (c .before .before .before .before .before .args .k))
-
-element-copy-out-from : tie.Need-element-copy-out-from
-element-copy-out-from c = omega (arith, c .before .before .before .before .before .pre .0 .owners (c .before .before .before .before .before .args .k))
-
-cast-from : tie.Need-cast-from
-cast-from c = let m = getD (c .before .before .before .before .before .before .args .owner .now) (c .before .before .before .before .before .before .args .k) 0 in omega (arith, c .before .before .before .before .before .before .pre .0 .takens m, c .before .before .before .before .before .before .pre .4 .within m)
-
-element-copy-out-upto : tie.Need-element-copy-out-upto
-element-copy-out-upto c = omega (arith, c .before .before .before .before .before .before .pre .0 .owners (c .before .before .before .before .before .before .args .k))
-
-cast-upto : tie.Need-cast-upto
-cast-upto c = omega (arith, c .before .before .before .before .before .before .before .pre .0 .takens (getD (c .before .before .before .before .before .before .before .args .owner .now) (c .before .before .before .before .before .before .before .args .k) 0))
-
-element-copy-out-p : tie.Need-element-copy-out-p
-element-copy-out-p c = let z = in-range _ _ _ _ _ _ (c .before .before .before .before .before .before .barred .ensures) (c .before .before .before .before .before .if1 .left) in omega arith
+phase-requires : tie.Need-phase-requires
+phase-requires c κs = let s = c .before .before .before .before .before .before .before .before .before .before .before in
+    (s .pre .0 .shaped .whole, in-range (s .args .m) (bytes (s .args .m) (s .args .b .now)) (s .args .t) (s .args .k) 1 (c .before .before .before .before .before .barred .ensures) (c .before .before .before .before .if1 .left) .0)
 
 blocked-requires : tie.Need-blocked-requires
-blocked-requires c κs =
-    let s = c .before .before .before .before .before .before .before .before in
-    let m = getD (s .args .owner .now) (s .args .k) 0 in
-    (walk-taken (s .pre .0) m (s .args .k) (s .pre .0 .owners (s .args .k)) (omega (arith, in-range _ _ _ _ _ _ (c .before .before .before .before .before .before .before .barred .ensures) (c .before .before .before .before .before .before .if1 .left), s .pre .0 .sheets64)), s .pre .4 .within m, s .pre .4 .none m)
+blocked-requires c κs = let s = c .before .before .before .before .before .before .before .before .before .before .before .before .before in
+    (s .pre .0, s .pre .1, in-range (s .args .m) (bytes (s .args .m) (s .args .b .now)) (s .args .t) (s .args .k) 1 (c .before .before .before .before .before .before .before .barred .ensures) (c .before .before .before .before .before .before .if1 .left) .1)
+
+same-length-4 : tie.Need-same-length-4
+same-length-4 c = search needs
 
 returns-3 : tie.Need-returns-3
-returns-3 c =
-    let s = c .before .before .before .before .before .before .before .before .before .before in
-    let a = s .args in (
-      (λ nodes placed failed runs place once.
-          read-6 (control nodes (a .sheets) placed (a .owner .now) (a .phase .now) failed runs (a .order .now) place (a .taken .now)) (a .value .now) (a .seen .now) (a .mark .now) (a .claim .now) (a .standing .now) (a .content .now) (a .wct .now) (a .t) (a .k) _ (s .pre .0 .sheets64)
-          (c .before .before .before .before .before .before .before .before .before .barred .ensures) claims-least (c .before .before .before .before .before .before .before .before .if1 .left) (c .before .before .before .before .before .before .if2 .left) (sym (c .before .blocked .ensures (λ u. getD place u 0) (once (getD (a .owner .now) (a .k) 0))) ∙ c .if3 .taken)),
-      search needs,
-    )
+returns-3 c = let s = c .before .before .before .before .before .before .before .before .before .before .before .before .before .before .before in
+    (λ x. read-6 (s .args .m) (bytes (s .args .m) (s .args .b .now)) (s .args .value .now) (s .args .seen .now) (s .args .w .now) (s .args .t) (s .args .k) 1 (c .before .before .before .before .before .before .before .before .before .barred .ensures) claims-least (c .before .before .before .before .before .before .before .before .if1 .left) (sym (c .before .before .before .before .before .before .mark .ensures) ∙ c .before .before .before .before .before .if2 .left) (rw (c .before .before .before .phase .ensures) at (sym (c .before .blocked .ensures) ∙ c .if3 .taken)), keeps-same (reading (s .args .b .now) (s .args .value .now) (s .args .seen .now) (s .args .w .now)))
 
-mul-x : tie.Need-mul-x
-mul-x c = search needs
+cell-requires-2 : tie.Need-cell-requires-2
+cell-requires-2 c κs = let s = c .before .before .before .before .before .before .before .before .before .before .before .before .before .before .before in
+    (row-in 2 (s .args .m) (s .args .w .now) CONTENT (omega arith) (s .pre .4), in-range (s .args .m) (bytes (s .args .m) (s .args .b .now)) (s .args .t) (s .args .k) 1 (c .before .before .before .before .before .before .before .before .before .barred .ensures) (c .before .before .before .before .before .before .before .before .if1 .left) .1)
 
-element-copy-out-x : tie.Need-element-copy-out-x
-element-copy-out-x c = omega (arith, in-range _ _ _ _ _ _ (c .before .before .before .before .before .before .before .before .before .barred .ensures) (c .before .before .before .before .before .before .before .before .if1 .left), c .before .before .before .before .before .before .before .before .before .before .pre .0 .sheets64)
+cell-requires-3 : tie.Need-cell-requires-3
+cell-requires-3 c κs = let s = c .before .before .before .before .before .before .before .before .before .before .before .before .before .before .before .before in
+    (row-in 2 (s .args .m) (s .args .w .now) WCT (omega arith) (s .pre .4), in-range (s .args .m) (bytes (s .args .m) (s .args .b .now)) (s .args .t) (s .args .k) 1 (c .before .before .before .before .before .before .before .before .before .before .barred .ensures) (c .before .before .before .before .before .before .before .before .before .if1 .left) .1)
 
-mul-y : tie.Need-mul-y
-mul-y c = search needs
+set-cell-requires : tie.Need-set-cell-requires
+set-cell-requires c κs = let s = c .before .before .before .before .before .before .before .before .before .before .before .before .before .before .before .before .before .before in
+    let i = in-range (s .args .m) (bytes (s .args .m) (s .args .b .now)) (s .args .t) (s .args .k) 1 (c .before .before .before .before .before .before .before .before .before .before .before .before .barred .ensures) (c .before .before .before .before .before .before .before .before .before .before .before .if1 .left) in
+    (row-in 32 (s .args .m) (s .args .value .now) (s .args .t) (i .0) (s .pre .2), i .1)
 
-element-copy-out-y : tie.Need-element-copy-out-y
-element-copy-out-y c = omega (arith, in-range _ _ _ _ _ _ (c .before .before .before .before .before .before .before .before .before .before .barred .ensures) (c .before .before .before .before .before .before .before .before .before .if1 .left), c .before .before .before .before .before .before .before .before .before .before .before .pre .0 .sheets64)
+set-cell-requires-2 : tie.Need-set-cell-requires-2
+set-cell-requires-2 c κs = let s = c .before .before .before .before .before .before .before .before .before .before .before .before .before .before .before .before .before .before .before .before .before .before in
+    let i = in-range (s .args .m) (bytes (s .args .m) (s .args .b .now)) (s .args .t) (s .args .k) 1 (c .before .before .before .before .before .before .before .before .before .before .before .before .before .before .before .before .barred .ensures) (c .before .before .before .before .before .before .before .before .before .before .before .before .before .before .before .if1 .left) in
+    (row-in 32 (s .args .m) (s .args .seen .now) (s .args .t) (i .0) (s .pre .3), i .1)
 
-mul-value : tie.Need-mul-value
-mul-value c = search needs
+set-mark-requires : tie.Need-set-mark-requires
+set-mark-requires c κs = let s = c .before .before .before .before .before .before .before .before .before .before .before .before .before .before .before .before .before .before .before .before .before .before .before .before .before .before in
+    let i = in-range (s .args .m) (bytes (s .args .m) (s .args .b .now)) (s .args .t) (s .args .k) 1 (c .before .before .before .before .before .before .before .before .before .before .before .before .before .before .before .before .before .before .before .before .barred .ensures) (c .before .before .before .before .before .before .before .before .before .before .before .before .before .before .before .before .before .before .before .if1 .left) in
+    (s .pre .0 .shaped .whole, i .0, i .1)
 
-element-write-value : tie.Need-element-write-value
-element-write-value c = let z = in-range _ _ _ _ _ _ (c .before .before .before .before .before .before .before .before .before .before .before .barred .ensures) (c .before .before .before .before .before .before .before .before .before .before .if1 .left) in omega arith
+same-length-5 : tie.Need-same-length-5
+same-length-5 c = search needs
 
-mul-seen : tie.Need-mul-seen
-mul-seen c = search needs
+same-length-6 : tie.Need-same-length-6
+same-length-6 c = search needs
 
-element-write-seen : tie.Need-element-write-seen
-element-write-seen c = let z = in-range _ _ _ _ _ _ (c .before .before .before .before .before .before .before .before .before .before .before .barred .ensures) (c .before .before .before .before .before .before .before .before .before .before .if1 .left) in omega arith
-
-element-write-mark : tie.Need-element-write-mark
-element-write-mark c = let z = in-range _ _ _ _ _ _ (c .before .before .before .before .before .before .before .before .before .before .before .barred .ensures) (c .before .before .before .before .before .before .before .before .before .before .if1 .left) in omega arith
+same-length-7 : tie.Need-same-length-7
+same-length-7 c = search needs
 
 returns-4 : tie.Need-returns-4
-returns-4 c =
-    let s = c .before .before .before .before .before .before .before .before .before .before .before .before in
-    let a = s .args in (
-      (λ nodes placed failed runs place once.
-          read-new (control nodes (a .sheets) placed (a .owner .now) (a .phase .now) failed runs (a .order .now) place (a .taken .now)) (a .value .now) (a .seen .now) (a .mark .now) (a .claim .now) (a .standing .now) (a .content .now) (a .wct .now) (a .t) (a .k) _ (s .pre .0 .sheets64)
-          (c .before .before .before .before .before .before .before .before .before .before .before .barred .ensures) claims-least (c .before .before .before .before .before .before .before .before .before .before .if1 .left) (c .before .before .before .before .before .before .before .before .if2 .left) (sym (c .before .before .before .blocked .ensures (λ u. getD place u 0) (once (getD (a .owner .now) (a .k) 0))) ∙ c .before .before .if3 .left) (s .pre .1) (s .pre .2) (s .pre .3)),
-      (rw length-set (s .pre .1), rw length-set (s .pre .2), rw length-set (s .pre .3)),
+returns-4 c = let s = c .before .before .before .before .before .before .before .before .before .before .before .before .before .before .before .before .before .before .before .before .before .before .before .before .before .before .before .before .before in
+    let i = in-range (s .args .m) (bytes (s .args .m) (s .args .b .now)) (s .args .t) (s .args .k) 1 (c .before .before .before .before .before .before .before .before .before .before .before .before .before .before .before .before .before .before .before .before .before .before .before .barred .ensures) (c .before .before .before .before .before .before .before .before .before .before .before .before .before .before .before .before .before .before .before .before .before .before .if1 .left) in (
+      (λ x. read-new (s .args .m) (bytes (s .args .m) (s .args .b .now)) (s .args .value .now) (s .args .seen .now) (s .args .w .now) (s .args .t) (s .args .k) 1 (c .before .before .before .before .before .before .before .before .before .before .before .before .before .before .before .before .before .before .before .before .before .before .before .barred .ensures) claims-least (c .before .before .before .before .before .before .before .before .before .before .before .before .before .before .before .before .before .before .before .before .before .before .if1 .left) (sym (c .before .before .before .before .before .before .before .before .before .before .before .before .before .before .before .before .before .before .before .before .mark .ensures) ∙ c .before .before .before .before .before .before .before .before .before .before .before .before .before .before .before .before .before .before .before .if2 .left) (rw (c .before .before .before .before .before .before .before .before .before .before .before .before .before .before .before .before .before .phase .ensures) at (sym (c .before .before .before .before .before .before .before .before .before .before .before .before .before .before .before .blocked .ensures) ∙ c .before .before .before .before .before .before .before .before .before .before .before .before .before .before .if3 .left)) (s .pre .2) (s .pre .3) (s .pre .0 .shaped .whole .all MARK)
+          (c .before .before .before .before .before .before .before .before .before .before .before .before .before .cell2 .ensures ∙ sym (flat-in (s .args .m) (s .args .w .now) CONTENT (s .args .k) (i .1))) (c .before .before .before .before .before .before .before .before .before .before .before .before .cell3 .ensures ∙ sym (flat-in (s .args .m) (s .args .w .now) WCT (s .args .k) (i .1))) (c .before .before .set-mark .ensures) (c .before .before .before .before .before .before .before .before .before .before .set-cell .ensures) (c .before .before .before .before .before .before .set-cell2 .ensures)),
+      keeps-reading (s .args .m) (s .args .b .now) _ (s .args .value .now) _ _ _ _ (c .before .before .set-mark .ensures) (c .before .before .before .before .before .before .before .before .before .before .set-cell .ensures) (s .args .seen .now) _ (s .args .w .now) _ (c .before .before .before .before .before .before .set-cell2 .ensures),
     )
 
 pub read-spec : {M : Type 1} → statement M
@@ -126,29 +101,23 @@ read-spec =
     tie.close
     (tie.spec
     barred-requires
+    same-length
     returns
-    mul-i
-    add-i
-    element-copy-out-m
-    mul-v
-    element-copy-out-v
+    mark-requires
+    cell-requires
+    same-length-2
+    same-length-3
     returns-2
-    element-copy-out-n
-    cast-n
-    element-copy-out-from
-    cast-from
-    element-copy-out-upto
-    cast-upto
-    element-copy-out-p
+    phase-requires
     blocked-requires
+    same-length-4
     returns-3
-    mul-x
-    element-copy-out-x
-    mul-y
-    element-copy-out-y
-    mul-value
-    element-write-value
-    mul-seen
-    element-write-seen
-    element-write-mark
+    cell-requires-2
+    cell-requires-3
+    set-cell-requires
+    set-cell-requires-2
+    set-mark-requires
+    same-length-5
+    same-length-6
+    same-length-7
     returns-4)

@@ -1,8 +1,11 @@
--- A refusal by the first tests, one for want of a copy, and the effect.
-use native.Mathlib.Omega.{arith}
-use Rattle.state.specs.View.{control}
+-- A refusal for each test, and the effect.
+use mathlib.Core.Path.{sym, _∙_}
+use Rattle.state.specs.Parts.{bytes, MARK}
+use Rattle.state.specs.Lent.{writing}
 use Rattle.state.proofs.Codes.{is-x-code}
+use Rattle.state.proofs.Lent.{keeps-same}
 use Rattle.copies.proofs.Tables.{in-range, write-barred, write-7, write-steps}
+use Rattle.copies.proofs.Kept.{row-in, keeps-writing}
 use borrow.Author.Needs.{needs}
 use Rattle.copies.proofs.write.Statement.{statement}
 use Rattle.copies.proofs.write.Tie as tie
@@ -10,65 +13,57 @@ use Rattle.copies.proofs.write.Tie as tie
 barred-requires : tie.Need-barred-requires
 barred-requires c κs = search needs
 
+same-length : tie.Need-same-length
+same-length c = search needs
+
 returns : tie.Need-returns
-returns c =
-    let s = c .before .before in
-    let a = s .args in (
-      (λ nodes placed owner failed runs order place taken seen standing content wct.
-          write-barred (control nodes (a .sheets) placed owner (a .phase .now) failed runs order place taken) (a .value .now) seen (a .mark .now) (a .claim .now) standing content wct (a .t) (a .k) _ (s .pre .0)
-          (c .before .barred .ensures) is-x-code (a .v) (c .if1 .taken)),
-      search needs,
-    )
+returns c = let s = c .before .before .before .before .before in
+    (λ x. write-barred (s .args .m) (bytes (s .args .m) (s .args .b .now)) (s .args .value .now) (x .seen) (x .sheets) (s .args .t) (s .args .k) 2 (c .before .barred .ensures) is-x-code (s .args .v) (c .if1 .taken), keeps-same (writing (s .args .b .now) (s .args .value .now)))
 
-mul-i : tie.Need-mul-i
-mul-i c = search needs
+mark-requires : tie.Need-mark-requires
+mark-requires c κs = let s = c .before .before .before .before .before .before in
+    let i = in-range (s .args .m) (bytes (s .args .m) (s .args .b .now)) (s .args .t) (s .args .k) 2 (c .before .before .barred .ensures) (c .before .if1 .left) in
+    (s .pre .0 .shaped .whole, i .0, i .1)
 
-add-i : tie.Need-add-i
-add-i c = search needs
-
-element-copy-out-m : tie.Need-element-copy-out-m
-element-copy-out-m c = let z = in-range _ _ _ _ _ _ (c .before .barred .ensures) (c .if1 .left) in omega arith
+same-length-2 : tie.Need-same-length-2
+same-length-2 c = search needs
 
 returns-2 : tie.Need-returns-2
-returns-2 c =
-    let s = c .before .before .before .before in
-    let a = s .args in (
-      (λ nodes placed owner failed runs order place taken seen standing content wct.
-          write-7 (control nodes (a .sheets) placed owner (a .phase .now) failed runs order place taken) (a .value .now) seen (a .mark .now) (a .claim .now) standing content wct (a .t) (a .k) _ (s .pre .0)
-          (c .before .before .before .barred .ensures) is-x-code (a .v) (c .before .before .if1 .left) (c .if2 .taken)),
-      search needs,
-    )
+returns-2 c = let s = c .before .before .before .before .before .before .before .before in
+    (λ x. write-7 (s .args .m) (bytes (s .args .m) (s .args .b .now)) (s .args .value .now) (x .seen) (x .sheets) (s .args .t) (s .args .k) 2 (c .before .before .before .before .barred .ensures) is-x-code (s .args .v) (c .before .before .before .if1 .left) (sym (c .before .mark .ensures) ∙ c .if2 .taken), keeps-same (writing (s .args .b .now) (s .args .value .now)))
 
-mul-value : tie.Need-mul-value
-mul-value c = search needs
+set-cell-requires : tie.Need-set-cell-requires
+set-cell-requires c κs = let s = c .before .before .before .before .before .before .before .before .before in
+    let i = in-range (s .args .m) (bytes (s .args .m) (s .args .b .now)) (s .args .t) (s .args .k) 2 (c .before .before .before .before .before .barred .ensures) (c .before .before .before .before .if1 .left) in
+    (row-in 32 (s .args .m) (s .args .value .now) (s .args .t) (i .0) (s .pre .1), i .1)
 
-element-write-value : tie.Need-element-write-value
-element-write-value c = let z = in-range _ _ _ _ _ _ (c .before .before .before .barred .ensures) (c .before .before .if1 .left) in omega arith
+set-mark-requires : tie.Need-set-mark-requires
+set-mark-requires c κs = let s = c .before .before .before .before .before .before .before .before .before .before .before .before .before in
+    let i = in-range (s .args .m) (bytes (s .args .m) (s .args .b .now)) (s .args .t) (s .args .k) 2 (c .before .before .before .before .before .before .before .before .before .barred .ensures) (c .before .before .before .before .before .before .before .before .if1 .left) in
+    (s .pre .0 .shaped .whole, i .0, i .1)
 
-element-write-mark : tie.Need-element-write-mark
-element-write-mark c = let z = in-range _ _ _ _ _ _ (c .before .before .before .barred .ensures) (c .before .before .if1 .left) in omega arith
+same-length-3 : tie.Need-same-length-3
+same-length-3 c = search needs
+
+same-length-4 : tie.Need-same-length-4
+same-length-4 c = search needs
 
 returns-3 : tie.Need-returns-3
-returns-3 c =
-    let s = c .before .before .before .before in
-    let a = s .args in (
-      (λ nodes placed owner failed runs order place taken seen standing content wct.
-          write-steps (control nodes (a .sheets) placed owner (a .phase .now) failed runs order place taken) (a .value .now) seen (a .mark .now) (a .claim .now) standing content wct (a .t) (a .k) _ (s .pre .0)
-          (c .before .before .before .barred .ensures) is-x-code (a .v) (c .before .before .if1 .left) (c .if2 .left) (s .pre .1) (s .pre .2)),
-      search needs,
-    )
+returns-3 c = let s = c .before .before .before .before .before .before .before .before .before .before .before .before .before .before .before .before in
+    ((λ x. write-steps (s .args .m) (bytes (s .args .m) (s .args .b .now)) (s .args .value .now) (x .seen) (x .sheets) (s .args .t) (s .args .k) 2 (c .before .before .before .before .before .before .before .before .before .before .before .before .barred .ensures) is-x-code (s .args .v) (c .before .before .before .before .before .before .before .before .before .before .before .if1 .left) (λ q. c .before .before .before .before .before .before .before .before .if2 .left (c .before .before .before .before .before .before .before .before .before .mark .ensures ∙ q)) (s .pre .1) (s .pre .0 .shaped .whole .all MARK) (c .before .before .set-mark .ensures) (c .before .before .before .before .before .before .set-cell .ensures)), keeps-writing (s .args .m) (s .args .b .now) _ (s .args .value .now) _ _ _ _ (c .before .before .set-mark .ensures) (c .before .before .before .before .before .before .set-cell .ensures))
 
 pub write-spec : {M : Type 1} → statement M
 write-spec =
     tie.close
     (tie.spec
     barred-requires
+    same-length
     returns
-    mul-i
-    add-i
-    element-copy-out-m
+    mark-requires
+    same-length-2
     returns-2
-    mul-value
-    element-write-value
-    element-write-mark
+    set-cell-requires
+    set-mark-requires
+    same-length-3
+    same-length-4
     returns-3)

@@ -2,7 +2,8 @@
 use mathlib.Core.Path.{sym, _∙_}
 use native.Mathlib.Omega.{arith}
 use Rattle.session.proofs.Needs.{opening}
-use Rattle.cusphewa.proofs.Laws.{reply-bad, replies-last, replies-refused, near-last, offset-small, stop-small}
+use Rattle.cusphewa.proofs.Laws.{reply-bad, replies-last, replies-refused, near-last, stop-small}
+use Rattle.session.proofs.Lines.{offset-small}
 use borrow.Author.Needs.{needs}
 use Rattle.cusphewa.proofs.last_answer.Statement.{statement}
 use Rattle.cusphewa.proofs.last_answer.Tie as tie
@@ -16,8 +17,8 @@ enum-told c = search needs
 enum-known-header : tie.Need-enum-known-header
 enum-known-header c = search needs
 
-run-requires : tie.Need-run-requires
-run-requires c κs = sym (c .before .header .given .1) ∙ c .before .before .before .read-header .ensures
+unreported-requires : tie.Need-unreported-requires
+unreported-requires c κs = sym (c .before .header .given .1) ∙ c .before .before .before .read-header .ensures
 
 enum-told-2 : tie.Need-enum-told-2
 enum-told-2 c = search needs
@@ -31,12 +32,12 @@ returns c = (reply-bad _ (sym (c .enum-told .given .1) ∙ c .before .before .re
 returns-2 : tie.Need-returns-2
 returns-2 c =
     let o = opening _ _ _ (sym (c .before .before .before .before .header .given .1) ∙ c .before .before .before .before .before .before .read-header .ensures) in
-    (replies-last _ _ _ o _ (c .before .before .run .ensures) (c .enum-told2 .given .1), near-last _ _ _ o _ (c .before .before .run .ensures))
+    (replies-last _ _ _ o _ (c .before .before .unreported .ensures) (c .enum-told2 .given .1), near-last _ _ _ o _ (c .before .before .unreported .ensures))
 
 returns-3 : tie.Need-returns-3
 returns-3 c =
     let o = opening _ _ _ (sym (c .before .before .before .before .before .header .given .1) ∙ c .before .before .before .before .before .before .before .read-header .ensures) in
-    let v = c .before .before .before .run .ensures in
+    let v = c .before .before .before .unreported .ensures in
     (replies-refused _ _ _ o _ v _ _ _ (c .before .stop .given .1), offset-small _ _ _ _ (c .before .stop .given .1) (stop-small _ _ _ o _ v))
 
 pub last-answer-spec : {M : Type 1} → statement M
@@ -46,7 +47,7 @@ last-answer-spec =
     read-header-requires
     enum-told
     enum-known-header
-    run-requires
+    unreported-requires
     enum-told-2
     enum-known-stop
     returns

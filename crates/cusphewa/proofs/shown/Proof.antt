@@ -1,6 +1,7 @@
 -- The part of the caller's slice from where the run stops.
 use native.Mathlib.Omega.{arith}
-use Rattle.cusphewa.proofs.Laws.{within-at, shown-end, shown-part}
+use Rattle.cusphewa.proofs.Laws.{shown-end, shown-part}
+use Rattle.session.proofs.Lines.{within-at}
 use borrow.Author.Needs.{needs}
 use Rattle.cusphewa.proofs.shown.Statement.{statement}
 use Rattle.cusphewa.proofs.shown.Tie as tie

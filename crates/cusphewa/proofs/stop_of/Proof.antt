@@ -16,8 +16,8 @@ enum-told c = search needs
 enum-known-header : tie.Need-enum-known-header
 enum-known-header c = search needs
 
-run-requires : tie.Need-run-requires
-run-requires c κs = sym (c .before .header .given .1) ∙ c .before .before .before .read-header .ensures
+unreported-requires : tie.Need-unreported-requires
+unreported-requires c κs = sym (c .before .header .given .1) ∙ c .before .before .before .read-header .ensures
 
 returns : tie.Need-returns
 returns c = (stop-bad _ (sym (c .enum-told .given .1) ∙ c .before .before .read-header .ensures), omega arith, omega arith)
@@ -25,9 +25,9 @@ returns c = (stop-bad _ (sym (c .enum-told .given .1) ∙ c .before .before .rea
 returns-2 : tie.Need-returns-2
 returns-2 c =
     let o = opening _ _ _ (sym (c .before .before .header .given .1) ∙ c .before .before .before .before .read-header .ensures) in
-    (stops-at _ _ _ o _ (c .run .ensures), c .run .ensures .within, near _ _ _ o _ (c .run .ensures))
+    (stops-at _ _ _ o _ (c .unreported .ensures), c .unreported .ensures .within, near _ _ _ o _ (c .unreported .ensures))
 
 pub stop-of-spec : {M : Type 1} → statement M
 stop-of-spec =
     tie.close
-    (tie.spec read-header-requires enum-told enum-known-header run-requires returns returns-2)
+    (tie.spec read-header-requires enum-told enum-known-header unreported-requires returns returns-2)

@@ -1,7 +1,5 @@
--- Each arm hands on its command's contract.
-use Rattle.state.specs.View.{control, no-tally}
-use Rattle.state.proofs.Ready.{ready, rising, only-claimed, queued, onces}
-use Rattle.state.proofs.Listed.{queued-64}
+-- Each arm hands on what its command ensures, with the slices that it was not lent.
+use Rattle.state.specs.Slices.{slices}
 use borrow.Author.Needs.{needs}
 use Rattle.engine.proofs.step.Statement.{statement}
 use Rattle.engine.proofs.step.Tie as tie
@@ -10,193 +8,149 @@ enum-known-c : tie.Need-enum-known-c
 enum-known-c c = search needs
 
 begin-requires : tie.Need-begin-requires
-begin-requires c κs =
-    let s = c .before .before .before .before .before in
-    let a = s .args in
-    let d = control (a .nodes) (a .sheets) (a .placed) (a .owner .now) (a .phase .now) (a .failed .now) (a .runs .now) (a .order .now) (a .place .now) (a .taken .now) in
-    let r = ready d (a .value .now) (a .seen .now) (a .mark .now) (a .claim .now) (a .standing .now) (a .content .now) (a .wct .now) no-tally (s .pre .2) (s .pre .0) in
-    (s .pre .0 .phase, s .pre .0 .runs, r .runs)
+begin-requires c κs = search needs
 
 enum-known-c-2 : tie.Need-enum-known-c-2
 enum-known-c-2 c = search needs
 
 read-requires : tie.Need-read-requires
-read-requires c κs =
-    let s = c .before .before .before .before .before .before .before .before .before .before .before .before .before .before in
-    let a = s .args in
-    let d = control (a .nodes) (a .sheets) (a .placed) (a .owner .now) (a .phase .now) (a .failed .now) (a .runs .now) (a .order .now) (a .place .now) (a .taken .now) in
-    let r = ready d (a .value .now) (a .seen .now) (a .mark .now) (a .claim .now) (a .standing .now) (a .content .now) (a .wct .now) no-tally (s .pre .2) (s .pre .0) in
-    (queued d r, s .pre .1 .value, s .pre .1 .seen, s .pre .1 .mark, s .pre .3)
+read-requires c κs = search needs
 
 enum-known-c-3 : tie.Need-enum-known-c-3
 enum-known-c-3 c = search needs
 
 write-requires : tie.Need-write-requires
-write-requires c κs = let s = c .before .before .before .before .before .before .before in (s .pre .2 .sheets64, s .pre .1 .value, s .pre .1 .mark)
+write-requires c κs = search needs
 
 enum-known-c-4 : tie.Need-enum-known-c-4
 enum-known-c-4 c = search needs
 
 submit-requires : tie.Need-submit-requires
-submit-requires c κs =
-    let s = c .before .before .before .before .before .before .before .before .before .before in
-    let a = s .args in
-    let d = control (a .nodes) (a .sheets) (a .placed) (a .owner .now) (a .phase .now) (a .failed .now) (a .runs .now) (a .order .now) (a .place .now) (a .taken .now) in
-    let r = ready d (a .value .now) (a .seen .now) (a .mark .now) (a .claim .now) (a .standing .now) (a .content .now) (a .wct .now) no-tally (s .pre .2) (s .pre .0) in
-    (s .pre .0 .fits, r .room, s .pre .0 .phase, s .pre .0 .order, s .pre .0 .place, s .pre .1 .claim, r .sheets64)
+submit-requires c κs = search needs
 
 enum-known-c-5 : tie.Need-enum-known-c-5
 enum-known-c-5 c = search needs
 
 take-requires : tie.Need-take-requires
-take-requires c κs =
-    let s = c .before .before .before .before .before .before .before .before .before .before .before .before .before in
-    let a = s .args in
-    let d = control (a .nodes) (a .sheets) (a .placed) (a .owner .now) (a .phase .now) (a .failed .now) (a .runs .now) (a .order .now) (a .place .now) (a .taken .now) in
-    let r = ready d (a .value .now) (a .seen .now) (a .mark .now) (a .claim .now) (a .standing .now) (a .content .now) (a .wct .now) no-tally (s .pre .2) (s .pre .0) in
-    (queued-64 (queued d r), r .nodes8, s .pre .0 .fits, r .small, s .pre .0 .failed, s .pre .0 .taken, s .pre .1 .standing, s .pre .3, s .pre .4 .rows)
+take-requires c κs = search needs
 
 enum-known-c-6 : tie.Need-enum-known-c-6
 enum-known-c-6 c = search needs
 
 decide-requires : tie.Need-decide-requires
-decide-requires c κs =
-    let s = c .before .before .before .before .before .before .before .before .before .before .before .before .before .before .before in
-    let a = s .args in
-    let d = control (a .nodes) (a .sheets) (a .placed) (a .owner .now) (a .phase .now) (a .failed .now) (a .runs .now) (a .order .now) (a .place .now) (a .taken .now) in
-    let r = ready d (a .value .now) (a .seen .now) (a .mark .now) (a .claim .now) (a .standing .now) (a .content .now) (a .wct .now) no-tally (s .pre .2) (s .pre .0) in
-    (queued-64 (queued d r), onces d r, r .runs, s .pre .0 .phase, s .pre .0 .runs, s .pre .1 .mark, s .pre .3, s .pre .4 .rows)
+decide-requires c κs = search needs
 
 enum-known-c-7 : tie.Need-enum-known-c-7
 enum-known-c-7 c = search needs
 
 apply-requires : tie.Need-apply-requires
-apply-requires c κs =
-    let s = c .before .before .before .before .before .before .before .before .before .before .before .before .before .before .before .before in
-    let a = s .args in
-    let d = control (a .nodes) (a .sheets) (a .placed) (a .owner .now) (a .phase .now) (a .failed .now) (a .runs .now) (a .order .now) (a .place .now) (a .taken .now) in
-    let r = ready d (a .value .now) (a .seen .now) (a .mark .now) (a .claim .now) (a .standing .now) (a .content .now) (a .wct .now) no-tally (s .pre .2) (s .pre .0) in
-    (queued-64 (queued d r), onces d r, r .nodes8, s .pre .1 .standing, s .pre .1 .content, s .pre .1 .wct, rising d (a .value .now) (a .seen .now) (a .mark .now) (a .claim .now) (a .standing .now) (a .content .now) (a .wct .now) no-tally (s .pre .2) (s .pre .1 .wct), s .pre .3, s .pre .4 .rows)
+apply-requires c κs = search needs
 
 enum-known-c-8 : tie.Need-enum-known-c-8
 enum-known-c-8 c = search needs
 
 give-up-requires : tie.Need-give-up-requires
-give-up-requires c κs = c .before .before .before .before .pre .0 .phase
+give-up-requires c κs = search needs
 
-stays-requires : tie.Need-stays-requires
-stays-requires c κs = search needs
-
-stays-requires-2 : tie.Need-stays-requires-2
-stays-requires-2 c κs = search needs
-
-stays-requires-3 : tie.Need-stays-requires-3
-stays-requires-3 c κs = search needs
-
-stays-requires-4 : tie.Need-stays-requires-4
-stays-requires-4 c κs = search needs
-
-stays-requires-5 : tie.Need-stays-requires-5
-stays-requires-5 c κs = search needs
-
-stays-requires-6 : tie.Need-stays-requires-6
-stays-requires-6 c κs = search needs
-
-stays-requires-7 : tie.Need-stays-requires-7
-stays-requires-7 c κs = search needs
+same-length : tie.Need-same-length
+same-length c = search needs
 
 returns : tie.Need-returns
-returns c =
-    let s = c .before .before .before .before .before .before .before in
-    let a = s .args in
-    let q = s .pre .0 in
-    let z = s .pre .1 in
-    rw (c .stays .ensures) (
-      rw (c .before .before .before .before .before .c .given .1) (c .before .begin .ensures .0 (a .nodes) (a .sheets) (a .placed) (a .owner .now) (a .failed .now) (a .order .now) (a .place .now) (a .taken .now) (a .value .now) (a .seen .now) (a .mark .now) (a .claim .now) (a .standing .now) (a .content .now) (a .wct .now)),
-      (z, record { owner = q .owner; phase = c .before .begin .ensures .1 .0; failed = q .failed; runs = c .before .begin .ensures .1 .1; order = q .order; place = q .place; taken = q .taken; fits = q .fits }, s .pre .3, s .pre .4),
-    )
+returns c = let a = c .before .before .before .before .before .before .before .before .before .before .before .before .args in
+    let x = slices (a .b .now) (a .listed .now) (a .value .now) (a .seen .now) (a .w .now) in
+    rw (c .before .before .before .before .before .c .given .1) (λ _. c .before .before .begin .ensures .0 x, λ _. c .before .before .begin .ensures .1 x)
+
+same-length-2 : tie.Need-same-length-2
+same-length-2 c = search needs
+
+same-length-3 : tie.Need-same-length-3
+same-length-3 c = search needs
+
+same-length-4 : tie.Need-same-length-4
+same-length-4 c = search needs
+
+same-length-5 : tie.Need-same-length-5
+same-length-5 c = search needs
 
 returns-2 : tie.Need-returns-2
-returns-2 c =
-    let s = c .before .before .before .before .before .before .before .before .before .before .before .before .before .before .before .before in
-    let a = s .args in
-    let q = s .pre .0 in
-    let z = s .pre .1 in
-    let d = control (a .nodes) (a .sheets) (a .placed) (a .owner .now) (a .phase .now) (a .failed .now) (a .runs .now) (a .order .now) (a .place .now) (a .taken .now) in
-    let r = ready d (a .value .now) (a .seen .now) (a .mark .now) (a .claim .now) (a .standing .now) (a .content .now) (a .wct .now) no-tally (s .pre .2) (s .pre .0) in
-    rw (c .stays2 .ensures) (
-      rw (c .before .before .before .before .before .before .before .before .before .before .before .before .before .before .c2 .given .1) (c .before .read .ensures .0 (a .nodes) (a .placed) (a .failed .now) (a .runs .now) (a .place .now) (onces d r)),
-      (record { value = c .before .read .ensures .1 .0; seen = c .before .read .ensures .1 .1; mark = c .before .read .ensures .1 .2; claim = z .claim; standing = z .standing; content = z .content; wct = z .wct }, q, s .pre .3, s .pre .4),
-    )
+returns-2 c = let a = c .before .before .before .before .before .before .before .before .before .before .before .before .before .before .before .before .before .before .before .args in
+    let x = slices (a .b .now) (a .listed .now) (a .value .now) (a .seen .now) (a .w .now) in
+    rw (c .before .before .before .before .before .before .before .before .before .before .before .before .c2 .given .1) (λ _. c .before .before .before .before .before .before .read .ensures .0 x, λ _. c .before .before .before .before .before .before .read .ensures .1 x)
+
+same-length-6 : tie.Need-same-length-6
+same-length-6 c = search needs
+
+same-length-7 : tie.Need-same-length-7
+same-length-7 c = search needs
 
 returns-3 : tie.Need-returns-3
-returns-3 c =
-    let s = c .before .before .before .before .before .before .before .before .before in
-    let a = s .args in
-    let q = s .pre .0 in
-    let z = s .pre .1 in
-    rw (c .stays3 .ensures) (
-      rw (c .before .before .before .before .before .before .before .c3 .given .1) (c .before .write .ensures .0 (a .nodes) (a .placed) (a .owner .now) (a .failed .now) (a .runs .now) (a .order .now) (a .place .now) (a .taken .now) (a .seen .now) (a .standing .now) (a .content .now) (a .wct .now)),
-      (record { value = c .before .write .ensures .1 .0; seen = z .seen; mark = c .before .write .ensures .1 .1; claim = z .claim; standing = z .standing; content = z .content; wct = z .wct }, q, s .pre .3, s .pre .4),
-    )
+returns-3 c = let a = c .before .before .before .before .before .before .before .before .before .before .before .before .before .before .before .args in
+    let x = slices (a .b .now) (a .listed .now) (a .value .now) (a .seen .now) (a .w .now) in
+    rw (c .before .before .before .before .before .before .before .before .c3 .given .1) (λ _. c .before .before .before .before .write .ensures .0 x, λ _. c .before .before .before .before .write .ensures .1 x)
+
+same-length-8 : tie.Need-same-length-8
+same-length-8 c = search needs
+
+same-length-9 : tie.Need-same-length-9
+same-length-9 c = search needs
 
 returns-4 : tie.Need-returns-4
-returns-4 c =
-    let s = c .before .before .before .before .before .before .before .before .before .before .before in
-    let a = s .args in
-    let q = s .pre .0 in
-    let z = s .pre .1 in
-    let d = control (a .nodes) (a .sheets) (a .placed) (a .owner .now) (a .phase .now) (a .failed .now) (a .runs .now) (a .order .now) (a .place .now) (a .taken .now) in
-    let r = ready d (a .value .now) (a .seen .now) (a .mark .now) (a .claim .now) (a .standing .now) (a .content .now) (a .wct .now) no-tally (s .pre .2) (s .pre .0) in (
-      rw (c .before .before .before .before .before .before .before .before .before .c4 .given .1) (c .submit .ensures .0 (a .nodes) (a .owner .now) (a .failed .now) (a .runs .now) (a .taken .now) (a .value .now) (a .seen .now) (a .standing .now) (a .content .now) (a .wct .now) r),
-      (record { value = z .value; seen = z .seen; mark = z .mark; claim = c .submit .ensures .1 .0 .4; standing = z .standing; content = z .content; wct = z .wct }, record { owner = q .owner; phase = c .submit .ensures .1 .0 .1; failed = q .failed; runs = q .runs; order = c .submit .ensures .1 .0 .2; place = c .submit .ensures .1 .0 .3; taken = q .taken; fits = c .submit .ensures .1 .0 .0 }, c .submit .ensures .1 .1 .0 (a .standing .now) (a .taken .now) (a .gone .now) (r .takens) (s .pre .3), c .submit .ensures .1 .1 .1 (s .pre .4)),
-    )
+returns-4 c = let a = c .before .before .before .before .before .before .before .before .before .before .before .before .before .before .before .args in
+    let x = slices (a .b .now) (a .listed .now) (a .value .now) (a .seen .now) (a .w .now) in
+    rw (c .before .before .before .before .before .before .before .before .c4 .given .1) (λ _. c .before .before .before .before .submit .ensures .0 x, λ _. c .before .before .before .before .submit .ensures .1 x)
+
+same-length-10 : tie.Need-same-length-10
+same-length-10 c = search needs
+
+same-length-11 : tie.Need-same-length-11
+same-length-11 c = search needs
+
+same-length-12 : tie.Need-same-length-12
+same-length-12 c = search needs
+
+same-length-13 : tie.Need-same-length-13
+same-length-13 c = search needs
 
 returns-5 : tie.Need-returns-5
-returns-5 c =
-    let s = c .before .before .before .before .before .before .before .before .before .before .before .before .before .before .before in
-    let a = s .args in
-    let q = s .pre .0 in
-    let z = s .pre .1 in
-    let d = control (a .nodes) (a .sheets) (a .placed) (a .owner .now) (a .phase .now) (a .failed .now) (a .runs .now) (a .order .now) (a .place .now) (a .taken .now) in
-    let r = ready d (a .value .now) (a .seen .now) (a .mark .now) (a .claim .now) (a .standing .now) (a .content .now) (a .wct .now) no-tally (s .pre .2) (s .pre .0) in
-    rw (c .stays4 .ensures) (
-      rw (c .before .before .before .before .before .before .before .before .before .before .before .before .before .c5 .given .1) (c .before .take .ensures .0 (a .sheets) (a .phase .now) (a .runs .now) (a .place .now) (a .value .now) (a .mark .now) (a .content .now) (only-claimed d (a .value .now) (a .seen .now) (a .mark .now) (a .claim .now) (a .standing .now) (a .content .now) (a .wct .now) no-tally (s .pre .2)) (s .pre .4) r),
-      (record { value = z .value; seen = z .seen; mark = z .mark; claim = z .claim; standing = c .before .take .ensures .1 .0 .2; content = z .content; wct = z .wct }, record { owner = q .owner; phase = q .phase; failed = c .before .take .ensures .1 .0 .0; runs = q .runs; order = q .order; place = q .place; taken = c .before .take .ensures .1 .0 .1; fits = q .fits }, c .before .take .ensures .1 .1 (a .place .now) (r .once) (r .takens), s .pre .4),
-    )
+returns-5 c = let a = c .before .before .before .before .before .before .before .before .before .before .before .before .before .before .before .args in
+    let x = slices (a .b .now) (a .listed .now) (a .value .now) (a .seen .now) (a .w .now) in
+    rw (c .before .before .before .before .before .before .before .before .c5 .given .1) (λ _. c .before .before .take .ensures .0 x, λ _. c .before .before .take .ensures .1 x)
+
+same-length-14 : tie.Need-same-length-14
+same-length-14 c = search needs
+
+same-length-15 : tie.Need-same-length-15
+same-length-15 c = search needs
 
 returns-6 : tie.Need-returns-6
-returns-6 c =
-    let s = c .before .before .before .before .before .before .before .before .before .before .before .before .before .before .before .before .before in
-    let a = s .args in
-    let q = s .pre .0 in
-    let z = s .pre .1 in
-    rw (c .stays5 .ensures) (
-      rw (c .before .before .before .before .before .before .before .before .before .before .before .before .before .before .before .c6 .given .1) (c .before .decide .ensures .0 (a .nodes) (a .sheets) (a .placed) (a .value .now) (a .seen .now) (a .content .now) (a .wct .now) (s .pre .4)),
-      (record { value = z .value; seen = z .seen; mark = c .before .decide .ensures .1 .2; claim = z .claim; standing = z .standing; content = z .content; wct = z .wct }, record { owner = q .owner; phase = c .before .decide .ensures .1 .0; failed = q .failed; runs = c .before .decide .ensures .1 .1; order = q .order; place = q .place; taken = q .taken; fits = q .fits }, s .pre .3, s .pre .4),
-    )
+returns-6 c = let a = c .before .before .before .before .before .before .before .before .before .before .before .before .before .args in
+    let x = slices (a .b .now) (a .listed .now) (a .value .now) (a .seen .now) (a .w .now) in
+    rw (c .before .before .before .before .before .before .c6 .given .1) (λ _. c .before .before .decide .ensures .0 x, λ _. c .before .before .decide .ensures .1 x)
+
+same-length-16 : tie.Need-same-length-16
+same-length-16 c = search needs
+
+same-length-17 : tie.Need-same-length-17
+same-length-17 c = search needs
+
+same-length-18 : tie.Need-same-length-18
+same-length-18 c = search needs
+
+same-length-19 : tie.Need-same-length-19
+same-length-19 c = search needs
 
 returns-7 : tie.Need-returns-7
-returns-7 c =
-    let s = c .before .before .before .before .before .before .before .before .before .before .before .before .before .before .before .before .before .before in
-    let a = s .args in
-    let q = s .pre .0 in
-    let z = s .pre .1 in
-    rw (c .stays6 .ensures) (
-      rw (c .before .before .before .before .before .before .before .before .before .before .before .before .before .before .before .before .c7 .given .1) (c .before .apply .ensures .0 (a .sheets) (a .placed) (a .failed .now) (a .runs .now) (a .seen .now) (s .pre .4)),
-      (record { value = z .value; seen = z .seen; mark = z .mark; claim = z .claim; standing = c .before .apply .ensures .1 .0; content = c .before .apply .ensures .1 .1; wct = c .before .apply .ensures .1 .2 }, q, c .before .apply .ensures .1 .3, s .pre .4),
-    )
+returns-7 c = let a = c .before .before .before .before .before .before .before .before .before .before .before .before .before .before .before .before .before .args in
+    let x = slices (a .b .now) (a .listed .now) (a .value .now) (a .seen .now) (a .w .now) in
+    rw (c .before .before .before .before .before .before .before .before .before .before .c7 .given .1) (λ _. c .before .before .before .before .apply .ensures .0 x, λ _. c .before .before .before .before .apply .ensures .1 x)
+
+same-length-20 : tie.Need-same-length-20
+same-length-20 c = search needs
 
 returns-8 : tie.Need-returns-8
-returns-8 c =
-    let s = c .before .before .before .before .before .before in
-    let a = s .args in
-    let q = s .pre .0 in
-    let z = s .pre .1 in
-    rw (c .stays7 .ensures) (
-      rw (c .before .before .before .before .c8 .given .1) (c .before .give-up .ensures .0 (a .nodes) (a .sheets) (a .placed) (a .owner .now) (a .failed .now) (a .runs .now) (a .order .now) (a .place .now) (a .taken .now) (a .value .now) (a .seen .now) (a .mark .now) (a .claim .now) (a .standing .now) (a .content .now) (a .wct .now)),
-      (z, record { owner = q .owner; phase = c .before .give-up .ensures .1; failed = q .failed; runs = q .runs; order = q .order; place = q .place; taken = q .taken; fits = q .fits }, s .pre .3, s .pre .4),
-    )
+returns-8 c = let a = c .before .before .before .before .before .before .before .before .before .before .before .before .args in
+    let x = slices (a .b .now) (a .listed .now) (a .value .now) (a .seen .now) (a .w .now) in
+    rw (c .before .before .before .before .before .c8 .given .1) (λ _. c .before .before .give-up .ensures .0 x, λ _. c .before .before .give-up .ensures .1 x)
 
 pub step-spec : {M : Type 1} → statement M
 step-spec =
@@ -204,32 +158,45 @@ step-spec =
     (tie.spec
     enum-known-c
     begin-requires
-    stays-requires
     enum-known-c-2
     read-requires
-    stays-requires-2
     enum-known-c-3
     write-requires
-    stays-requires-3
     enum-known-c-4
     submit-requires
     enum-known-c-5
     take-requires
-    stays-requires-4
     enum-known-c-6
     decide-requires
-    stays-requires-5
     enum-known-c-7
     apply-requires
-    stays-requires-6
     enum-known-c-8
     give-up-requires
-    stays-requires-7
+    same-length
     returns
+    same-length-2
+    same-length-3
+    same-length-4
+    same-length-5
     returns-2
+    same-length-6
+    same-length-7
     returns-3
+    same-length-8
+    same-length-9
     returns-4
+    same-length-10
+    same-length-11
+    same-length-12
+    same-length-13
     returns-5
+    same-length-14
+    same-length-15
     returns-6
+    same-length-16
+    same-length-17
+    same-length-18
+    same-length-19
     returns-7
+    same-length-20
     returns-8)

@@ -1,6 +1,10 @@
 -- One place more has no entry.
+use Prim.Native.Nat.{ℕ, _+_, _*_, _-_, _≤_}
+use mathlib.Core.Path.{_≡_}
+use mathlib.Core.List.{List}
+use lib.ListN.{getD}
 use native.Mathlib.Omega.{arith}
-use Prim.Native.Nat.{_-_, _≤_}
+use Rattle.state.specs.Parts.{bytes, STANDING, ORDER}
 use Rattle.state.specs.Ready.{Gone}
 use Rattle.state.proofs.Behind.{gone-on}
 use borrow.Author.Needs.{needs}
@@ -8,34 +12,38 @@ use Rattle.nodes.proofs.behind.Statement.{statement}
 use Rattle.nodes.proofs.behind.Tie as tie
 
 abbrev Inv-loop : tie.InvT-loop
-Inv-loop order standing n g upto q₀ q = (q ≤ upto) × Gone order standing n q
+Inv-loop b m n upto q₀ q = (q ≤ upto) × Gone (bytes m b ORDER) (bytes m b STANDING) n q
 
 abbrev μ-loop : tie.MeasureT-loop
-μ-loop order standing n g upto q₀ q = upto - q
+μ-loop b m n upto q₀ q = upto - q
+
+-- what the code reads of the save at a place
+not-standing : (standing : List ℕ) (n : ℕ) {u v e : ℕ} → u ≡ v → e ≡ getD standing (n * 32 + u) 0 → e ≡ 0 → getD standing (n * 32 + v) 0 ≡ 0
+not-standing standing n eu es z = rw (← eu, ← es) z
+
+taken-requires : tie.Need-taken-requires Inv-loop μ-loop
+taken-requires c κs = (c .before .pre .0 .shaped .whole, c .before .pre .2)
+
+gone-requires : tie.Need-gone-requires Inv-loop μ-loop
+gone-requires c κs = (c .before .before .pre .0 .shaped .whole, c .before .before .pre .2)
 
 loop-holds : tie.Need-loop-holds Inv-loop μ-loop
-loop-holds c = (c .pre .1, c .pre .4)
+loop-holds c = let s = c .before .before .before in (omega (arith, s .pre .1 .within (s .args .n)), rw (c .gone .ensures) (s .pre .1 .none (s .args .n)))
 
-cast-qi : tie.Need-cast-qi Inv-loop μ-loop
-cast-qi c = search needs
+cast-order : tie.Need-cast-order Inv-loop μ-loop
+cast-order c = search needs
 
-element-copy-out-u : tie.Need-element-copy-out-u Inv-loop μ-loop
-element-copy-out-u c = search needs
+order-requires : tie.Need-order-requires Inv-loop μ-loop
+order-requires c κs = let s = c .before .before .before .before .before in (s .pre .0 .shaped .whole, omega (arith, s .pre .0 .takens (s .args .n), s .pre .0 .shaped .fits))
 
-cast-u : tie.Need-cast-u Inv-loop μ-loop
-cast-u c = omega (arith, c .before .before .before .pre .3 (c .before .before .loop .q) (c .before .loop-test .taken))
+cast-standing : tie.Need-cast-standing Inv-loop μ-loop
+cast-standing c = search needs
 
-mul-e : tie.Need-mul-e Inv-loop μ-loop
-mul-e c = omega (arith, c .before .before .before .pre .3 (c .before .before .loop .q) (c .before .loop-test .taken))
-
-add-e : tie.Need-add-e Inv-loop μ-loop
-add-e c = omega (arith, c .before .before .before .pre .3 (c .before .before .loop .q) (c .before .loop-test .taken))
-
-element-copy-out-e : tie.Need-element-copy-out-e Inv-loop μ-loop
-element-copy-out-e c = omega (arith, c .before .before .before .pre .3 (c .before .before .loop .q) (c .before .loop-test .taken))
+standing-requires : tie.Need-standing-requires Inv-loop μ-loop
+standing-requires c κs = let s = c .before .before .before .before .before .before in (s .pre .0 .shaped .whole, s .pre .2, rw (c .order .ensures) (s .pre .0 .small (c .before .before .loop .q) (omega (arith, s .pre .0 .takens (s .args .n), c .before .before .before .before .taken .ensures, c .before .loop-test .taken))))
 
 returns : tie.Need-returns Inv-loop μ-loop
-returns c = c .before .before .before .before .loop .inv
+returns c = (rw (c .before .before .before .before .before .before .taken .ensures) at (c .before .before .before .before .loop .inv .0), c .before .before .before .before .loop .inv .1)
 
 add-q : tie.Need-add-q Inv-loop μ-loop
 add-q c = search needs
@@ -44,10 +52,13 @@ loop-less : tie.Need-loop-less Inv-loop μ-loop
 loop-less c = search needs
 
 loop-again : tie.Need-loop-again Inv-loop μ-loop
-loop-again c = (omega arith, gone-on (c .before .before .before .before .before .args .order .now) (c .before .before .before .before .before .args .standing .now) (c .before .before .before .before .before .args .n) (c .before .before .before .before .loop .q) (c .before .before .before .before .loop .inv .1) (c .if1 .left))
+loop-again c = let s = c .before .before .before .before .before .before .before .before in (
+  omega arith,
+  gone-on (bytes (s .args .m) (s .args .b .now) ORDER) (bytes (s .args .m) (s .args .b .now) STANDING) (s .args .n) (c .before .before .before .before .loop .q) (c .before .before .before .before .loop .inv .1) (not-standing (bytes (s .args .m) (s .args .b .now) STANDING) (s .args .n) (c .before .before .order .ensures) (c .before .standing .ensures) (c .if1 .left)),
+)
 
 returns-2 : tie.Need-returns-2 Inv-loop μ-loop
-returns-2 c = c .before .loop .inv
+returns-2 c = (rw (c .before .before .before .taken .ensures) at (c .before .loop .inv .0), c .before .loop .inv .1)
 
 pub behind-spec : {M : Type 1} → statement M
 behind-spec =
@@ -55,13 +66,13 @@ behind-spec =
     (tie.spec
     Inv-loop
     μ-loop
+    taken-requires
+    gone-requires
     loop-holds
-    cast-qi
-    element-copy-out-u
-    cast-u
-    mul-e
-    add-e
-    element-copy-out-e
+    cast-order
+    order-requires
+    cast-standing
+    standing-requires
     returns
     add-q
     loop-less

@@ -1,88 +1,93 @@
--- The loop fills both tables from the first sheet on.
-use Prim.Native.Nat.{ℕ, _+_, _-_, _*_, _≤_}
-use mathlib.Core.Path.{_≡_, refl, _∙_}
-use mathlib.Core.Bool.{Bool, cond}
+-- One sheet more is as APPLY leaves it.
+use Prim.Native.Nat.{_-_, _≤_}
+use mathlib.Core.Path.{_≡_}
 use native.Mathlib.Omega.{arith}
-use lib.ListN.{getD}
-use Rattle.state.specs.Fill.{fill}
-use Rattle.state.proofs.Stores.{fill-next, not-yet}
-use Rattle.nodes.specs.Carry.{contents, wcts}
+use lib.ListN.{length-set}
+use Rattle.state.specs.Parts.{byte-sizes, bytes, MARK}
+use Rattle.state.proofs.Cells.{cell-in, row-small}
+use Rattle.state.proofs.Parts.{row-get, row-within}
+use Rattle.nodes.specs.Carry.{Applied}
+use Rattle.nodes.proofs.Carry.{carry-none, carry-on, can-rise}
 use borrow.Author.Needs.{needs}
 use Rattle.nodes.proofs.carry_out.Statement.{statement}
 use Rattle.nodes.proofs.carry_out.Tie as tie
 
-chosen : (x : ℕ) {g b : Bool} {y z r : ℕ} → r ≡ cond g x y → g ≡ b → y ≡ z → r ≡ cond b x z
-chosen x e f h = rw (e, f, h)
-
-raised : {g b : Bool} {y z r : ℕ} → r ≡ cond g (y + 1) y → g ≡ b → y ≡ z → r ≡ cond b (z + 1) z
-raised e f h = rw (e, f, h)
-
 abbrev Inv-loop : tie.InvT-loop
-Inv-loop owner phase value mark content₀ wct₀ n t p k₀ content wct k = (k ≤ 64) × (content ≡ fill (contents owner phase value mark content₀ n t) 0 k content₀) × (wct ≡ fill (wcts owner phase mark wct₀ n t) 0 k wct₀)
+Inv-loop b value w₀ m n t p from k₀ w k = (k ≤ m) × Applied m (bytes m b) value n t w₀ k w
 
 abbrev μ-loop : tie.MeasureT-loop
-μ-loop owner phase value mark content₀ wct₀ n t p k₀ content wct k = 64 - k
+μ-loop b value w₀ m n t p from k₀ w k = m - k
 
-element-copy-out-p : tie.Need-element-copy-out-p Inv-loop μ-loop
-element-copy-out-p c = search needs
+phase-requires : tie.Need-phase-requires Inv-loop μ-loop
+phase-requires c κs = (c .before .before .before .pre .0 .shaped .whole, c .before .before .before .pre .4)
+
+marks-requires : tie.Need-marks-requires Inv-loop μ-loop
+marks-requires c κs = (c .before .before .before .before .pre .0 .sheets16, c .before .before .before .before .pre .4)
 
 loop-holds : tie.Need-loop-holds Inv-loop μ-loop
-unfolding fill
-loop-holds c = (omega arith, refl, refl)
+loop-holds c = (omega arith, carry-none)
 
-element-copy-out-o : tie.Need-element-copy-out-o Inv-loop μ-loop
-element-copy-out-o c = search needs
+owner-requires : tie.Need-owner-requires Inv-loop μ-loop
+owner-requires c κs = (c .before .before .before .before .before .before .before .pre .0 .shaped .whole, c .loop-test .taken)
 
-mul-i : tie.Need-mul-i Inv-loop μ-loop
-mul-i c = search needs
+add-x : tie.Need-add-x Inv-loop μ-loop
+add-x c = let s = c .before .before .before .before .before .before .before .before in
+    omega (arith, row-within (byte-sizes (s .args .m)) (s .args .b .now) MARK (s .args .m) (s .args .t) (c .before .before .loop .k) (c .before .before .before .marks .ensures) (cell-in (s .args .m) (s .pre .4) (c .before .loop-test .taken)) (s .pre .0 .shaped .whole))
 
-add-i : tie.Need-add-i Inv-loop μ-loop
-add-i c = search needs
-
-element-copy-out-m : tie.Need-element-copy-out-m Inv-loop μ-loop
-element-copy-out-m c = search needs
+shared-slice-read-x : tie.Need-shared-slice-read-x Inv-loop μ-loop
+shared-slice-read-x c = let s = c .before .before .before .before .before .before .before .before .before in
+    row-within (byte-sizes (s .args .m)) (s .args .b .now) MARK (s .args .m) (s .args .t) (c .before .before .before .loop .k) (c .before .before .before .before .marks .ensures) (cell-in (s .args .m) (s .pre .4) (c .before .before .loop-test .taken)) (s .pre .0 .shaped .whole)
 
 receives-requires : tie.Need-receives-requires Inv-loop μ-loop
 receives-requires c κs = search needs
 
 mul-pick : tie.Need-mul-pick Inv-loop μ-loop
-mul-pick c = search needs
+mul-pick c = let s = c .before .before .before .before .before .before .before .before .before .before in omega (arith, row-small (s .args .m) (s .pre .4) (s .pre .0 .sheets16))
 
-element-copy-out-pick : tie.Need-element-copy-out-pick Inv-loop μ-loop
-element-copy-out-pick c = search needs
+add-pick : tie.Need-add-pick Inv-loop μ-loop
+add-pick c = let s = c .before .before .before .before .before .before .before .before .before .before in omega (arith, row-small (s .args .m) (s .pre .4) (s .pre .0 .sheets16), s .pre .0 .sheets16)
 
 mul-pick-2 : tie.Need-mul-pick-2 Inv-loop μ-loop
-mul-pick-2 c = search needs
+mul-pick-2 c = let s = c .before .before .before .before .before .before .before .before .before .before in omega (arith, row-small (s .args .m) (s .pre .4) (s .pre .0 .sheets16), s .pre .0 .sheets16)
 
-element-copy-out-pick-2 : tie.Need-element-copy-out-pick-2 Inv-loop μ-loop
-element-copy-out-pick-2 c = search needs
+shared-slice-read-pick : tie.Need-shared-slice-read-pick Inv-loop μ-loop
+shared-slice-read-pick c = let s = c .before .before .before .before .before .before .before .before .before .before .before in omega (arith, cell-in (s .args .m) (s .pre .4) (c .before .before .before .before .loop-test .taken), s .pre .1)
+
+mul-pick-3 : tie.Need-mul-pick-3 Inv-loop μ-loop
+mul-pick-3 c = search needs
+
+slice-read-pick : tie.Need-slice-read-pick Inv-loop μ-loop
+slice-read-pick c = let s = c .before .before .before .before .before .before .before .before .before .before .before .before in omega (arith, c .before .before .before .before .before .before .loop .inv .1 .size, s .pre .2)
 
 pick-requires : tie.Need-pick-requires Inv-loop μ-loop
 pick-requires c κs = search needs
 
+add-raise : tie.Need-add-raise Inv-loop μ-loop
+add-raise c = let s = c .before .before .before .before .before .before .before .before .before .before .before .before .before in omega (arith, s .pre .0 .sheets16)
+
 mul-raise : tie.Need-mul-raise Inv-loop μ-loop
 mul-raise c = search needs
 
-element-copy-out-raise : tie.Need-element-copy-out-raise Inv-loop μ-loop
-element-copy-out-raise c = search needs
+slice-read-raise : tie.Need-slice-read-raise Inv-loop μ-loop
+slice-read-raise c = let s = c .before .before .before .before .before .before .before .before .before .before .before .before .before .before in omega (arith, c .before .before .before .before .before .before .before .before .loop .inv .1 .size, s .pre .2)
 
 raise-requires : tie.Need-raise-requires Inv-loop μ-loop
-raise-requires c κs =
-    let a = c .before .before .before .before .before .before .before .before .before .before .args in
-    let l = c .before .before .before .before .before .before .before .before .loop in
-    rw (not-yet (wcts (a .owner .now) (a .phase .now) (a .mark .now) (a .wct .now) (a .n) (a .t)) (a .wct .now) (l .wct) (l .k) (l .inv .2)) (c .before .before .before .before .before .before .before .before .before .before .pre .1 (l .k))
+raise-requires c κs = can-rise (c .before .before .before .before .before .before .before .before .loop .w) (c .before .before .before .before .before .before .before .before .loop .inv .1) (c .before .before .before .before .before .before .before .loop-test .taken) (c .before .before .before .before .before .before .before .before .before .before .before .before .before .before .pre .3)
 
-mul-content : tie.Need-mul-content Inv-loop μ-loop
-mul-content c = search needs
+mul-w : tie.Need-mul-w Inv-loop μ-loop
+mul-w c = search needs
 
-element-write-content : tie.Need-element-write-content Inv-loop μ-loop
-element-write-content c = search needs
+slice-write-w : tie.Need-slice-write-w Inv-loop μ-loop
+slice-write-w c = let s = c .before .before .before .before .before .before .before .before .before .before .before .before .before .before .before in omega (arith, c .before .before .before .before .before .before .before .before .before .loop .inv .1 .size, s .pre .2)
 
-mul-wct : tie.Need-mul-wct Inv-loop μ-loop
-mul-wct c = search needs
+add-w : tie.Need-add-w Inv-loop μ-loop
+add-w c = let s = c .before .before .before .before .before .before .before .before .before .before .before .before .before .before .before in omega (arith, s .pre .0 .sheets16)
 
-element-write-wct : tie.Need-element-write-wct Inv-loop μ-loop
-element-write-wct c = search needs
+mul-w-2 : tie.Need-mul-w-2 Inv-loop μ-loop
+mul-w-2 c = search needs
+
+slice-write-w-2 : tie.Need-slice-write-w-2 Inv-loop μ-loop
+slice-write-w-2 c = let s = c .before .before .before .before .before .before .before .before .before .before .before .before .before .before .before in rw length-set (omega (arith, c .before .before .before .before .before .before .before .before .before .loop .inv .1 .size, s .pre .2))
 
 add-k : tie.Need-add-k Inv-loop μ-loop
 add-k c = search needs
@@ -91,22 +96,19 @@ loop-less : tie.Need-loop-less Inv-loop μ-loop
 loop-less c = search needs
 
 loop-again : tie.Need-loop-again Inv-loop μ-loop
-loop-again c =
-    let a = c .before .before .before .before .before .before .before .before .before .before .before .args in
+loop-again c = let s = c .before .before .before .before .before .before .before .before .before .before .before .before .before .before .before in
     let l = c .before .before .before .before .before .before .before .before .before .loop in
-    let f = contents (a .owner .now) (a .phase .now) (a .value .now) (a .mark .now) (a .content .now) (a .n) (a .t) in
-    let g = wcts (a .owner .now) (a .phase .now) (a .mark .now) (a .wct .now) (a .n) (a .t) in
-    let r = c .before .before .before .before .before .receives in (
+    let h = c .before .before .before .before .before .before .before .before .loop-test .taken in (
       omega arith,
-      fill-next f (a .content .now) (l .content) (l .k) _ (l .inv .1)
-          (chosen (getD (a .value .now) (a .t * 64 + l .k) 0) (c .before .before .pick .ensures) (r .ensures) (not-yet f (a .content .now) (l .content) (l .k) (l .inv .1))),
-      fill-next g (a .wct .now) (l .wct) (l .k) _ (l .inv .2) (raised (c .raise .ensures) (r .ensures) (not-yet g (a .wct .now) (l .wct) (l .k) (l .inv .2))),
+      carry-on (l .w) (l .inv .1) h (s .pre .2) (c .before .before .before .before .before .before .before .owner .ensures) (c .before .before .before .before .before .before .before .before .before .before .before .phase .ensures) (row-get (byte-sizes (s .args .m)) (s .args .b .now) MARK (s .args .m) (s .args .t) (l .k) (c .before .before .before .before .before .before .before .before .before .before .marks .ensures) (cell-in (s .args .m) (s .pre .4) h))
+          (c .before .before .before .before .before .receives .ensures) (c .before .before .pick .ensures) (c .raise .ensures),
     )
 
+same-length : tie.Need-same-length Inv-loop μ-loop
+same-length c = c .before .loop .inv .1 .size
+
 returns : tie.Need-returns Inv-loop μ-loop
-returns c =
-    let e : c .before .loop .k ≡ 64 = omega arith in
-    (c .before .loop .inv .1 ∙ rw e, c .before .loop .inv .2 ∙ rw e)
+returns c = let e : c .before .loop .k ≡ c .before .before .before .before .before .before .before .args .m = omega arith in rw e at (c .before .loop .inv .1)
 
 pub carry-out-spec : {M : Type 1} → statement M
 carry-out-spec =
@@ -114,26 +116,31 @@ carry-out-spec =
     (tie.spec
     Inv-loop
     μ-loop
-    element-copy-out-p
+    phase-requires
+    marks-requires
     loop-holds
-    element-copy-out-o
-    mul-i
-    add-i
-    element-copy-out-m
+    owner-requires
+    add-x
+    shared-slice-read-x
     receives-requires
     mul-pick
-    element-copy-out-pick
+    add-pick
     mul-pick-2
-    element-copy-out-pick-2
+    shared-slice-read-pick
+    mul-pick-3
+    slice-read-pick
     pick-requires
+    add-raise
     mul-raise
-    element-copy-out-raise
+    slice-read-raise
     raise-requires
-    mul-content
-    element-write-content
-    mul-wct
-    element-write-wct
+    mul-w
+    slice-write-w
+    add-w
+    mul-w-2
+    slice-write-w-2
     add-k
     loop-less
     loop-again
+    same-length
     returns)

@@ -1,120 +1,145 @@
 -- A refusal for each test, and the effect for each verdict.
-use mathlib.Core.Path.{sym, _∙_}
-use native.Mathlib.Omega.{arith}
-use lib.ListN.{getD, length-set}
 use borrow.Author.Tests.{le-ltb, not-true}
-use Rattle.state.specs.View.{control}
-use Rattle.state.proofs.Ready.{onces}
-use Rattle.state.proofs.Behind.{behind-moved, behind-taken}
+use Rattle.state.specs.Lent.{own}
 use Rattle.state.proofs.Steps.{refused}
-use Rattle.nodes.proofs.Joins.{take-9, take-none, take-invalid, take-valid}
+use Rattle.state.proofs.Lent.{keeps-same, own-keeps}
+use Rattle.nodes.proofs.Lent.{taking-moves}
+use Rattle.nodes.proofs.Joins.{node8, take-9, place32, more, save32, moves-none, moves-invalid, moves-valid, holds-moved, holds-valid, holds-invalid, whole-standing, more-standing, entered-stored, whole-entered, failed-stored}
 use borrow.Author.Needs.{needs}
 use Rattle.nodes.proofs.take.Statement.{statement}
 use Rattle.nodes.proofs.take.Tie as tie
 
-returns : tie.Need-returns
-returns c = ((λ sheets phase runs place value mark content only listed ready. refused (λ tally. simp (le-ltb _ _ (c .if1 .taken)))), (search needs, λ place once h. c .before .pre .7))
+nodes-requires : tie.Need-nodes-requires
+nodes-requires c κs = c .before .before .before .before .before .pre .0 .shaped .whole
 
-element-copy-out-p : tie.Need-element-copy-out-p
-element-copy-out-p c = search needs
+same-length : tie.Need-same-length
+same-length c = search needs
+
+returns : tie.Need-returns
+returns c = let l = rw (c .before .nodes .ensures) at (c .if1 .taken) in (λ x. refused (λ tally. simp (le-ltb _ _ l)), keeps-same (own (c .before .before .before .before .before .before .before .args .b .now)))
+
+taken-requires : tie.Need-taken-requires
+taken-requires c κs = let s = c .before .before .before .before .before .before .before .before in (s .pre .0 .shaped .whole, node8 (s .pre .0) (s .args .n) (rw (c .before .before .nodes .ensures) at (c .before .if1 .left)))
+
+placed-requires : tie.Need-placed-requires
+placed-requires c κs = c .before .before .before .before .before .before .before .before .before .before .pre .0 .shaped .whole
+
+same-length-2 : tie.Need-same-length-2
+same-length-2 c = search needs
 
 returns-2 : tie.Need-returns-2
-returns-2 c =
-    let s = c .before .before .before in
-    let a = s .args in
-    ((λ sheets phase runs place value mark content only listed ready. take-9 (control (a .nodes) sheets (a .placed) (a .owner .now) phase (a .failed .now) runs (a .order .now) place (a .taken .now)) ready value (a .seen .now) mark (a .claim .now) (a .standing .now) content (a .wct .now) (a .n) (c .before .before .if1 .left) (c .if2 .taken)), (search needs, λ place once h. s .pre .7))
+returns-2 c = let s = c .before .before .before .before .before .before .before .before .before .before .before .before in
+    let ln = rw (c .before .before .before .before .before .before .nodes .ensures) at (c .before .before .before .before .before .if1 .left) in
+    let l = rw (c .before .placed .ensures) at (c .if2 .taken) in
+    (λ x. take-9 (s .pre .0) (s .args .n) ln (c .before .before .before .taken .ensures) l (s .args .seen .now) (s .args .w .now) (x .value), keeps-same (own (s .args .b .now)))
 
-cast-pi : tie.Need-cast-pi
-cast-pi c = omega (arith, c .before .before .before .pre .0 .takens (c .before .before .before .args .n))
+cast-order : tie.Need-cast-order
+cast-order c = search needs
 
-element-copy-out-t : tie.Need-element-copy-out-t
-element-copy-out-t c = search needs
-
-cast-ti : tie.Need-cast-ti
-cast-ti c = omega (arith, c .before .before .before .before .pre .3 (getD (c .before .before .before .before .args .taken .now) (c .before .before .before .before .args .n) 0) (c .before .if2 .left))
+order-requires : tie.Need-order-requires
+order-requires c κs = let s = c .before .before .before .before .before .before .before .before .before .before .before .before .before in
+    let ln = rw (c .before .before .before .before .before .before .before .nodes .ensures) at (c .before .before .before .before .before .before .if1 .left) in
+    let h = rw (c .before .before .placed .ensures) at (c .before .if2 .left) in
+    (s .pre .0 .shaped .whole, place32 (s .pre .0) (s .args .n) ln (c .before .before .before .before .taken .ensures) h)
 
 claims-here-requires : tie.Need-claims-here-requires
-claims-here-requires c κs = let s = c .before .before .before .before in (s .pre .3 (getD (s .args .taken .now) (s .args .n) 0) (c .before .if2 .left), s .pre .8)
+claims-here-requires c κs = let s = c .before .before .before .before .before .before .before .before .before .before .before .before .before .before .before in
+    let ln = rw (c .before .before .before .before .before .before .before .before .before .nodes .ensures) at (c .before .before .before .before .before .before .before .before .if1 .left) in
+    let h = rw (c .before .before .before .before .placed .ensures) at (c .before .before .before .if2 .left) in
+    (s .pre .0, s .pre .1, save32 (s .pre .0) (s .args .n) ln (c .before .before .before .before .before .before .taken .ensures) h (c .before .order .ensures))
 
-add-taken : tie.Need-add-taken
-add-taken c = search needs
+move-on-requires : tie.Need-move-on-requires
+move-on-requires c κs = let s = c .before .before .before .before .before .before .before .before .before .before .before .before .before .before .before .before .before .before in
+    let ln = rw (c .before .before .before .before .before .before .before .before .before .before .before .before .nodes .ensures) at (c .before .before .before .before .before .before .before .before .before .before .before .if1 .left) in
+    let h = rw (c .before .before .before .before .before .before .before .placed .ensures) at (c .before .before .before .before .before .before .if2 .left) in
+    (s .pre .0 .shaped .whole, node8 (s .pre .0) (s .args .n) ln, more (s .pre .0) (s .args .n) ln (c .before .before .before .before .before .before .before .before .before .taken .ensures) h)
 
-element-write-taken : tie.Need-element-write-taken
-element-write-taken c = search needs
+same-length-3 : tie.Need-same-length-3
+same-length-3 c = search needs
 
 returns-3 : tie.Need-returns-3
-returns-3 c =
-    let s = c .before .before .before .before .before .before in
-    let a = s .args in (
-      (λ sheets phase runs place value mark content only listed ready.
-          take-none (control (a .nodes) sheets (a .placed) (a .owner .now) phase (a .failed .now) runs (a .order .now) place (a .taken .now)) ready (a .claim .now) (a .standing .now) (a .n) (omega (arith, s .pre .1, c .before .before .before .before .before .if1 .left)) (c .before .before .before .if2 .left) value (a .seen .now) mark content (a .wct .now) (c .before .before .before .before .before .if1 .left) only
-          (sym (c .before .claims-here .ensures sheets listed) ∙ not-true _ (c .if3 .taken))),
-      ((s .pre .4, rw length-set (s .pre .5), s .pre .6), λ place once h. behind-moved (s .pre .7) (a .n) (rw (s .pre .5) (omega (arith, s .pre .1, c .before .before .before .before .before .if1 .left)))),
+returns-3 c = let s = c .before .before .before .before .before .before .before .before .before .before .before .before .before .before .before .before .before .before .before .before .before in
+    let ln = rw (c .before .before .before .before .before .before .before .before .before .before .before .before .before .before .before .nodes .ensures) at (c .before .before .before .before .before .before .before .before .before .before .before .before .before .before .if1 .left) in
+    let h = rw (c .before .before .before .before .before .before .before .before .before .before .placed .ensures) at (c .before .before .before .before .before .before .before .before .before .if2 .left) in (
+      taking-moves (s .args .b .now) _ (c .before .before .move-on .ensures) (s .args .seen .now) (s .args .w .now) (moves-none (s .pre .0) (s .args .n) ln (c .before .before .before .before .before .before .before .before .before .before .before .before .taken .ensures) h (c .before .before .before .before .before .before .before .order .ensures) (c .before .before .before .before .before .claims-here .ensures) (not-true _ (c .before .before .before .before .if3 .taken)) (s .args .seen .now) (s .args .w .now)),
+      own-keeps (s .args .b .now) _ (c .before .before .move-on .ensures) (holds-moved (s .pre .0) (s .args .n) ln (c .before .before .before .before .before .before .before .before .before .before .before .before .taken .ensures) h),
     )
 
 finds-invalid-requires : tie.Need-finds-invalid-requires
-finds-invalid-requires c κs =
-    let s = c .before .before .before .before .before .before .before .before in
-    (s .pre .0, omega (arith, s .pre .1), s .pre .3 (getD (s .args .taken .now) (s .args .n) 0) (c .before .before .before .before .before .if2 .left), s .pre .7, s .pre .8)
+finds-invalid-requires c κs = let s = c .before .before .before .before .before .before .before .before .before .before .before .before .before .before .before .before .before .before in
+    let ln = rw (c .before .before .before .before .before .before .before .before .before .before .before .before .nodes .ensures) at (c .before .before .before .before .before .before .before .before .before .before .before .if1 .left) in
+    let h = rw (c .before .before .before .before .before .before .before .placed .ensures) at (c .before .before .before .before .before .before .if2 .left) in
+    (s .pre .0, s .pre .1, s .pre .2, s .pre .3, node8 (s .pre .0) (s .args .n) ln, save32 (s .pre .0) (s .args .n) ln (c .before .before .before .before .before .before .before .before .before .taken .ensures) h (c .before .before .before .before .order .ensures))
 
-mul-standing : tie.Need-mul-standing
-mul-standing c = search needs
+cast-ti : tie.Need-cast-ti
+cast-ti c = search needs
 
-add-standing : tie.Need-add-standing
-add-standing c = let s = c .before .before .before .before .before .before .before .before .before in omega (arith, s .pre .1, s .pre .3 (getD (s .args .taken .now) (s .args .n) 0) (c .before .before .before .before .before .before .if2 .left))
+set-standing-requires : tie.Need-set-standing-requires
+set-standing-requires c κs = let s = c .before .before .before .before .before .before .before .before .before .before .before .before .before .before .before .before .before .before .before .before in
+    let ln = rw (c .before .before .before .before .before .before .before .before .before .before .before .before .before .before .nodes .ensures) at (c .before .before .before .before .before .before .before .before .before .before .before .before .before .if1 .left) in
+    let h = rw (c .before .before .before .before .before .before .before .before .before .placed .ensures) at (c .before .before .before .before .before .before .before .before .if2 .left) in
+    (s .pre .0 .shaped .whole, node8 (s .pre .0) (s .args .n) ln, save32 (s .pre .0) (s .args .n) ln (c .before .before .before .before .before .before .before .before .before .before .before .taken .ensures) h (c .before .before .before .before .before .before .order .ensures))
 
-element-write-standing : tie.Need-element-write-standing
-element-write-standing c = let s = c .before .before .before .before .before .before .before .before .before in omega (arith, s .pre .1, s .pre .3 (getD (s .args .taken .now) (s .args .n) 0) (c .before .before .before .before .before .before .if2 .left))
+move-on-requires-2 : tie.Need-move-on-requires-2
+move-on-requires-2 c κs = let s = c .before .before .before .before .before .before .before .before .before .before .before .before .before .before .before .before .before .before .before .before .before .before .before .before in
+    let ln = rw (c .before .before .before .before .before .before .before .before .before .before .before .before .before .before .before .before .before .before .nodes .ensures) at (c .before .before .before .before .before .before .before .before .before .before .before .before .before .before .before .before .before .if1 .left) in
+    let h = rw (c .before .before .before .before .before .before .before .before .before .before .before .before .before .placed .ensures) at (c .before .before .before .before .before .before .before .before .before .before .before .before .if2 .left) in
+    let e = c .before .before .before .set-standing .ensures in
+    (whole-standing (s .pre .0) (s .args .n) ln (c .before .before .before .before .before .before .before .before .before .before .before .before .before .before .before .taken .ensures) h _ _ e, node8 (s .pre .0) (s .args .n) ln, more-standing (s .pre .0) (s .args .n) ln (c .before .before .before .before .before .before .before .before .before .before .before .before .before .before .before .taken .ensures) h _ _ e)
 
-add-taken-2 : tie.Need-add-taken-2
-add-taken-2 c = search needs
+fail-requires : tie.Need-fail-requires
+fail-requires c κs = let s = c .before .before .before .before .before .before .before .before .before .before .before .before .before .before .before .before .before .before .before .before .before .before .before .before .before .before .before .before .before in
+    let ln = rw (c .before .before .before .before .before .before .before .before .before .before .before .before .before .before .before .before .before .before .before .before .before .before .before .nodes .ensures) at (c .before .before .before .before .before .before .before .before .before .before .before .before .before .before .before .before .before .before .before .before .before .before .if1 .left) in
+    let h = rw (c .before .before .before .before .before .before .before .before .before .before .before .before .before .before .before .before .before .before .placed .ensures) at (c .before .before .before .before .before .before .before .before .before .before .before .before .before .before .before .before .before .if2 .left) in
+    (whole-entered (s .pre .0) (s .args .n) ln (c .before .before .before .before .before .before .before .before .before .before .before .before .before .before .before .before .before .before .before .before .taken .ensures) h _ _ (c .before .before .before .before .before .before .before .before .set-standing .ensures) (c .before .before .before .before .move-on2 .ensures), save32 (s .pre .0) (s .args .n) ln (c .before .before .before .before .before .before .before .before .before .before .before .before .before .before .before .before .before .before .before .before .taken .ensures) h (c .before .before .before .before .before .before .before .before .before .before .before .before .before .before .before .order .ensures))
 
-element-write-taken-2 : tie.Need-element-write-taken-2
-element-write-taken-2 c = search needs
-
-element-write-failed : tie.Need-element-write-failed
-element-write-failed c = let s = c .before .before .before .before .before .before .before .before .before .before in omega (arith, s .pre .3 (getD (s .args .taken .now) (s .args .n) 0) (c .before .before .before .before .before .before .before .if2 .left))
+same-length-4 : tie.Need-same-length-4
+same-length-4 c = search needs
 
 returns-4 : tie.Need-returns-4
-returns-4 c =
-    let s = c .before .before .before .before .before .before .before .before .before .before in
-    let a = s .args in (
-      (λ sheets phase runs place value mark content only listed ready.
-          take-invalid (control (a .nodes) sheets (a .placed) (a .owner .now) phase (a .failed .now) runs (a .order .now) place (a .taken .now)) ready (a .claim .now) (a .standing .now) (a .n) (omega (arith, s .pre .1, c .before .before .before .before .before .before .before .before .before .if1 .left)) (c .before .before .before .before .before .before .before .if2 .left) value (a .seen .now) mark content (a .wct .now) (c .before .before .before .before .before .before .before .before .before .if1 .left) (s .pre .6)
-          (sym (c .if4 .taken) ∙ c .before .finds-invalid .ensures sheets place listed (onces (control (a .nodes) sheets (a .placed) (a .owner .now) phase (a .failed .now) runs (a .order .now) place (a .taken .now)) ready))),
-      ((rw length-set (s .pre .4), rw length-set (s .pre .5), rw length-set (s .pre .6)), λ place once h. behind-taken (s .pre .7) (λ u. getD place u 0) (a .placed) (a .n) 1 once (s .pre .3) h (c .before .before .before .before .before .before .before .if2 .left) (rw (s .pre .5) (omega (arith, s .pre .1, c .before .before .before .before .before .before .before .before .before .if1 .left)))),
+returns-4 c = let s = c .before .before .before .before .before .before .before .before .before .before .before .before .before .before .before .before .before .before .before .before .before .before .before .before .before .before .before .before .before .before .before .before in
+    let ln = rw (c .before .before .before .before .before .before .before .before .before .before .before .before .before .before .before .before .before .before .before .before .before .before .before .before .before .before .nodes .ensures) at (c .before .before .before .before .before .before .before .before .before .before .before .before .before .before .before .before .before .before .before .before .before .before .before .before .before .if1 .left) in
+    let h = rw (c .before .before .before .before .before .before .before .before .before .before .before .before .before .before .before .before .before .before .before .before .before .placed .ensures) at (c .before .before .before .before .before .before .before .before .before .before .before .before .before .before .before .before .before .before .before .before .if2 .left) in
+    let e = failed-stored (s .pre .0) (s .args .n) ln (c .before .before .before .before .before .before .before .before .before .before .before .before .before .before .before .before .before .before .before .before .before .before .before .taken .ensures) h (c .before .before .before .before .before .before .before .before .before .before .before .before .before .before .before .before .before .before .order .ensures) (c .before .before .before .before .before .before .before .before .before .before .before .set-standing .ensures) (c .before .before .before .before .before .before .before .move-on2 .ensures) (c .before .before .fail .ensures) in (
+      taking-moves (s .args .b .now) _ e (s .args .seen .now) (s .args .w .now) (λ value. moves-invalid (s .pre .0) (s .args .n) ln (c .before .before .before .before .before .before .before .before .before .before .before .before .before .before .before .before .before .before .before .before .before .before .before .taken .ensures) h (c .before .before .before .before .before .before .before .before .before .before .before .before .before .before .before .before .before .before .order .ensures) (s .args .seen .now) (s .args .w .now) (c .before .before .before .before .before .before .before .before .before .before .before .before .before .finds-invalid .ensures) value (c .before .before .before .before .if4 .taken)),
+      own-keeps (s .args .b .now) _ e (holds-invalid (s .pre .0) (s .args .n) ln (c .before .before .before .before .before .before .before .before .before .before .before .before .before .before .before .before .before .before .before .before .before .before .before .taken .ensures) h (c .before .before .before .before .before .before .before .before .before .before .before .before .before .before .before .before .before .before .order .ensures)),
     )
 
+same-length-5 : tie.Need-same-length-5
+same-length-5 c = search needs
+
 returns-5 : tie.Need-returns-5
-returns-5 c =
-    let s = c .before .before .before .before .before .before .before .before .before .before in
-    let a = s .args in (
-      (λ sheets phase runs place value mark content only listed ready.
-          take-valid (control (a .nodes) sheets (a .placed) (a .owner .now) phase (a .failed .now) runs (a .order .now) place (a .taken .now)) ready (a .claim .now) (a .standing .now) (a .n) (omega (arith, s .pre .1, c .before .before .before .before .before .before .before .before .before .if1 .left)) (c .before .before .before .before .before .before .before .if2 .left) value (a .seen .now) mark content (a .wct .now) (c .before .before .before .before .before .before .before .before .before .if1 .left) (s .pre .6)
-          (sym (c .if4 .left) ∙ c .before .finds-invalid .ensures sheets place listed (onces (control (a .nodes) sheets (a .placed) (a .owner .now) phase (a .failed .now) runs (a .order .now) place (a .taken .now)) ready))),
-      ((s .pre .4, rw length-set (s .pre .5), rw length-set (s .pre .6)), λ place once h. behind-taken (s .pre .7) (λ u. getD place u 0) (a .placed) (a .n) 1 once (s .pre .3) h (c .before .before .before .before .before .before .before .if2 .left) (rw (s .pre .5) (omega (arith, s .pre .1, c .before .before .before .before .before .before .before .before .before .if1 .left)))),
+returns-5 c = let s = c .before .before .before .before .before .before .before .before .before .before .before .before .before .before .before .before .before .before .before .before .before .before .before .before .before .before .before .before in
+    let ln = rw (c .before .before .before .before .before .before .before .before .before .before .before .before .before .before .before .before .before .before .before .before .before .before .nodes .ensures) at (c .before .before .before .before .before .before .before .before .before .before .before .before .before .before .before .before .before .before .before .before .before .if1 .left) in
+    let h = rw (c .before .before .before .before .before .before .before .before .before .before .before .before .before .before .before .before .before .placed .ensures) at (c .before .before .before .before .before .before .before .before .before .before .before .before .before .before .before .before .if2 .left) in
+    let e = entered-stored (s .pre .0) (s .args .n) ln (c .before .before .before .before .before .before .before .before .before .before .before .before .before .before .before .before .before .before .before .taken .ensures) h (c .before .before .before .before .before .before .before .before .before .before .before .before .before .before .order .ensures) (c .before .before .before .before .before .before .before .set-standing .ensures) (c .before .before .before .move-on2 .ensures) in (
+      taking-moves (s .args .b .now) _ e (s .args .seen .now) (s .args .w .now) (λ value. moves-valid (s .pre .0) (s .args .n) ln (c .before .before .before .before .before .before .before .before .before .before .before .before .before .before .before .before .before .before .before .taken .ensures) h (c .before .before .before .before .before .before .before .before .before .before .before .before .before .before .order .ensures) (s .args .seen .now) (s .args .w .now) (c .before .before .before .before .before .before .before .before .before .finds-invalid .ensures) value (c .if4 .left)),
+      own-keeps (s .args .b .now) _ e (holds-valid (s .pre .0) (s .args .n) ln (c .before .before .before .before .before .before .before .before .before .before .before .before .before .before .before .before .before .before .before .taken .ensures) h (c .before .before .before .before .before .before .before .before .before .before .before .before .before .before .order .ensures)),
     )
 
 pub take-spec : {M : Type 1} → statement M
 take-spec =
     tie.close
     (tie.spec
+    nodes-requires
+    same-length
     returns
-    element-copy-out-p
+    taken-requires
+    placed-requires
+    same-length-2
     returns-2
-    cast-pi
-    element-copy-out-t
-    cast-ti
+    cast-order
+    order-requires
     claims-here-requires
-    add-taken
-    element-write-taken
+    move-on-requires
+    same-length-3
     returns-3
     finds-invalid-requires
-    mul-standing
-    add-standing
-    element-write-standing
-    add-taken-2
-    element-write-taken-2
-    element-write-failed
+    cast-ti
+    set-standing-requires
+    move-on-requires-2
+    fail-requires
+    same-length-4
     returns-4
+    same-length-5
     returns-5)

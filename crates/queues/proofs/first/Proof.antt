@@ -1,57 +1,64 @@
--- The loop stops at the first place that halts it; the places before `from` have no entry, so none of them does.
-use Rattle.queues.specs.Walk.{stop, halts}
-use Rattle.queues.proofs.Walk.{stop-skip, stop-here, stop-on, stop-end}
-use Rattle.rules.proofs.Places.{at}
-use native.Mathlib.Omega.{arith}
-use Prim.Native.Nat.{_-_, _≤_}
-use mathlib.Core.Path.{_≡_, sym, _∙_}
+-- The loop stops at the first place that halts it; the places before its start have no entry, so none of them does.
+use Prim.Native.Nat.{_-_}
+use mathlib.Core.Path.{sym}
+use Rattle.state.specs.Parts.{bytes}
+use Rattle.queues.proofs.Rest.{Rest, rest-start, rest-end, node-in, place-in, save-in, rest-here, rest-on}
 use borrow.Author.Needs.{needs}
 use Rattle.queues.proofs.first.Statement.{statement}
 use Rattle.queues.proofs.first.Tie as tie
 
 abbrev Inv-loop : tie.InvT-loop
-Inv-loop order standing claim n k from upto t least q₀ q = (q ≤ upto) × (stop (at order) (halts standing claim n k t least) 0 upto ≡ stop (at order) (halts standing claim n k t least) q (upto - q))
+Inv-loop b m k t least n upto q₀ q = Rest m (bytes m b) k t least n upto q
 
 abbrev μ-loop : tie.MeasureT-loop
-μ-loop order standing claim n k from upto t least q₀ q = upto - q
+μ-loop b m k t least n upto q₀ q = upto - q
+
+owner-requires : tie.Need-owner-requires Inv-loop μ-loop
+owner-requires c κs = search needs
+
+cast-n : tie.Need-cast-n Inv-loop μ-loop
+cast-n c = search needs
+
+taken-requires : tie.Need-taken-requires Inv-loop μ-loop
+taken-requires c κs = let s = c .before .before in (s .pre .0 .shaped .whole, rw (c .owner .ensures) (s .pre .0 .owners (s .args .k)))
+
+cast-upto : tie.Need-cast-upto Inv-loop μ-loop
+cast-upto c = search needs
+
+gone-requires : tie.Need-gone-requires Inv-loop μ-loop
+gone-requires c κs = let s = c .before .before .before in (s .pre .0 .shaped .whole, rw (c .before .owner .ensures) (s .pre .0 .owners (s .args .k)))
+
+cast-q : tie.Need-cast-q Inv-loop μ-loop
+cast-q c = search needs
 
 loop-holds : tie.Need-loop-holds Inv-loop μ-loop
 loop-holds c =
-    let a = c .args in
-    (c .pre .1, stop-skip (at (a .order .now)) (halts (a .standing .now) (a .claim .now) (a .n) (a .k) (a .t) (a .least)) (a .upto) (a .from) (c .pre .1) (λ q l. rw (c .pre .2 q l)))
+    let s = c .before .before .before .before in
+    rest-start (s .args .t) (s .args .least) (s .pre .0) (s .pre .1) (s .pre .2) (c .before .before .owner .ensures) (c .before .taken .ensures) (c .gone .ensures)
 
-element-copy-out-u : tie.Need-element-copy-out-u Inv-loop μ-loop
-element-copy-out-u c = search needs
+order-requires : tie.Need-order-requires Inv-loop μ-loop
+order-requires c κs = let i = c .before .loop .inv in (i .ready .shaped .whole, place-in i (c .loop-test .taken))
 
 cast-ui : tie.Need-cast-ui Inv-loop μ-loop
-cast-ui c = omega (arith, c .before .before .before .pre .0 .small (c .before .before .loop .q) (c .before .loop-test .taken))
+cast-ui c = search needs
 
-mul-e : tie.Need-mul-e Inv-loop μ-loop
-mul-e c = omega (arith, c .before .before .before .pre .0 .small (c .before .before .loop .q) (c .before .loop-test .taken))
+standing-requires : tie.Need-standing-requires Inv-loop μ-loop
+standing-requires c κs =
+    let i = c .before .before .loop .inv in
+    (i .ready .shaped .whole, node-in i, save-in i (c .before .loop-test .taken) (c .order .ensures))
 
-add-e : tie.Need-add-e Inv-loop μ-loop
-add-e c = omega (arith, c .before .before .before .pre .0 .small (c .before .before .loop .q) (c .before .loop-test .taken))
-
-element-copy-out-e : tie.Need-element-copy-out-e Inv-loop μ-loop
-element-copy-out-e c = omega (arith, c .before .before .before .pre .0 .small (c .before .before .loop .q) (c .before .loop-test .taken))
-
-mul-c : tie.Need-mul-c Inv-loop μ-loop
-mul-c c = omega (arith, c .before .before .before .before .pre .0 .small (c .before .before .before .loop .q) (c .before .before .loop-test .taken))
-
-add-c : tie.Need-add-c Inv-loop μ-loop
-add-c c = omega (arith, c .before .before .before .before .pre .0 .small (c .before .before .before .loop .q) (c .before .before .loop-test .taken))
-
-element-copy-out-c : tie.Need-element-copy-out-c Inv-loop μ-loop
-element-copy-out-c c = omega (arith, c .before .before .before .before .pre .0 .small (c .before .before .before .loop .q) (c .before .before .loop-test .taken))
+claim-requires : tie.Need-claim-requires Inv-loop μ-loop
+claim-requires c κs =
+    let i = c .before .before .before .loop .inv in
+    (i .ready .shaped .whole, save-in i (c .before .before .loop-test .taken) (c .before .order .ensures), i .sheet)
 
 halt-requires : tie.Need-halt-requires Inv-loop μ-loop
 halt-requires c κs = search needs
 
 returns : tie.Need-returns Inv-loop μ-loop
 returns c =
-    let b = c .before .before .before .before .before .before in
-    let a = b .before .args in
-    sym (b .loop .inv .1 ∙ stop-here (at (a .order .now)) (halts (a .standing .now) (a .claim .now) (a .n) (a .k) (a .t) (a .least)) (b .loop .q) (a .upto) (c .before .before .before .before .before .loop-test .taken) (sym (c .before .halt .ensures) ∙ c .if1 .taken))
+    let s = c .before .before .before .before in
+    sym (rest-here (s .before .before .loop .inv) (s .before .loop-test .taken) (s .order .ensures) (c .before .before .before .standing .ensures) (c .before .before .claim .ensures) (c .before .halt .ensures) (c .if1 .taken))
 
 add-q : tie.Need-add-q Inv-loop μ-loop
 add-q c = search needs
@@ -61,14 +68,11 @@ loop-less c = search needs
 
 loop-again : tie.Need-loop-again Inv-loop μ-loop
 loop-again c =
-    let b = c .before .before .before .before .before .before in
-    let a = b .before .args in
-    (omega arith, b .loop .inv .1 ∙ stop-on (at (a .order .now)) (halts (a .standing .now) (a .claim .now) (a .n) (a .k) (a .t) (a .least)) (b .loop .q) (a .upto) (c .before .before .before .before .before .loop-test .taken) (sym (c .before .halt .ensures) ∙ c .if1 .left))
+    let s = c .before .before .before .before in
+    rest-on (s .before .before .loop .inv) (s .before .loop-test .taken) (s .order .ensures) (c .before .before .before .standing .ensures) (c .before .before .claim .ensures) (c .before .halt .ensures) (c .if1 .left)
 
 returns-2 : tie.Need-returns-2 Inv-loop μ-loop
-returns-2 c =
-    let a = c .before .before .args in
-    sym (c .before .loop .inv .1 ∙ stop-end (at (a .order .now)) (halts (a .standing .now) (a .claim .now) (a .n) (a .k) (a .t) (a .least)) (c .before .loop .q) (a .upto) (c .loop-test .left))
+returns-2 c = sym (rest-end (c .before .loop .inv) (c .loop-test .left))
 
 pub first-spec : {M : Type 1} → statement M
 first-spec =
@@ -76,15 +80,17 @@ first-spec =
     (tie.spec
     Inv-loop
     μ-loop
+    owner-requires
+    cast-n
+    taken-requires
+    cast-upto
+    gone-requires
+    cast-q
     loop-holds
-    element-copy-out-u
+    order-requires
     cast-ui
-    mul-e
-    add-e
-    element-copy-out-e
-    mul-c
-    add-c
-    element-copy-out-c
+    standing-requires
+    claim-requires
     halt-requires
     returns
     add-q

@@ -1,25 +1,18 @@
--- The walk to the first entry that is t or in its way ends at none or at t.
-use mathlib.Core.Path.{_∙_, sym}
-use borrow.Author.Tests.{lt-ltb, le-ltb, eq-eqb, ne-eqb}
+-- The walk to the first entry that is t or in its way finds none, or t.
+use mathlib.Core.Path.{refl, sym, _∙_}
+use borrow.Author.Tests.{eq-eqb, ne-eqb}
 use Rattle.queues.proofs.Walk.{queue-granted}
 use borrow.Author.Needs.{needs}
 use Rattle.queues.proofs.granted_at.Statement.{statement}
 use Rattle.queues.proofs.granted_at.Tie as tie
 
-mul-c : tie.Need-mul-c
-mul-c c = search needs
-
-add-c : tie.Need-add-c
-add-c c = search needs
-
-element-copy-out-c : tie.Need-element-copy-out-c
-element-copy-out-c c = search needs
+claim-requires : tie.Need-claim-requires
+claim-requires c κs = search needs
 
 returns : tie.Need-returns
 returns c =
-    let s = c .before .before in
-    let a = s .args in
-    λ place once. sym (queue-granted (a .order .now) place (a .standing .now) (a .claim .now) (a .n) (a .k) (a .upto) (s .pre .0) once (a .t) ∙ simp (eq-eqb _ _ (c .if1 .taken)))
+    let s = c .before .before .before in
+    sym (queue-granted (s .pre .0) (s .pre .2) (s .args .t) (c .before .claim .ensures) refl refl ∙ rw (eq-eqb _ _ (c .if1 .taken)))
 
 least-requires : tie.Need-least-requires
 least-requires c κs = search needs
@@ -29,37 +22,18 @@ first-requires c κs = search needs
 
 returns-2 : tie.Need-returns-2
 returns-2 c =
-    let s = c .before .before .before .before .before in
-    let a = s .args in
-    let f = c .before .first in
-    let l = c .before .before .least in
-    λ place once.
-    sym (queue-granted (a .order .now) place (a .standing .now) (a .claim .now) (a .n) (a .k) (a .upto) (s .pre .0) once (a .t)
-    ∙ rw (← l .ensures, ← f .ensures, ne-eqb _ _ (c .before .before .before .if1 .left), le-ltb _ _ (c .if2 .taken)))
-
-element-copy-out-u : tie.Need-element-copy-out-u
-element-copy-out-u c = search needs
+    let p = c .before .before .before .before in
+    let s = p .before .before in
+    sym (queue-granted (s .pre .0) (s .pre .2) (s .args .t) (p .claim .ensures) (c .before .before .least .ensures) (c .before .first .ensures)
+    ∙ rw (ne-eqb _ _ (c .before .before .before .if1 .left), eq-eqb _ _ (c .if2 .taken)))
 
 returns-3 : tie.Need-returns-3
 returns-3 c =
-    let s = c .before .before .before .before .before .before in
-    let a = s .args in
-    let f = c .before .before .first in
-    let l = c .before .before .before .least in
-    λ place once.
-    sym (queue-granted (a .order .now) place (a .standing .now) (a .claim .now) (a .n) (a .k) (a .upto) (s .pre .0) once (a .t)
-    ∙ rw (← l .ensures, ← f .ensures, ne-eqb _ _ (c .before .before .before .before .if1 .left), lt-ltb _ _ (c .before .if2 .left)))
+    let p = c .before .before .before .before in
+    let s = p .before .before in
+    sym (queue-granted (s .pre .0) (s .pre .2) (s .args .t) (p .claim .ensures) (c .before .before .least .ensures) (c .before .first .ensures)
+    ∙ rw (ne-eqb _ _ (c .before .before .before .if1 .left), ne-eqb _ _ (c .if2 .left)))
 
 pub granted-at-spec : {M : Type 1} → statement M
 granted-at-spec =
-    tie.close
-    (tie.spec
-    mul-c
-    add-c
-    element-copy-out-c
-    returns
-    least-requires
-    first-requires
-    returns-2
-    element-copy-out-u
-    returns-3)
+    tie.close (tie.spec claim-requires returns least-requires first-requires returns-2 returns-3)

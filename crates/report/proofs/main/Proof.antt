@@ -1,4 +1,4 @@
--- The buffers are long enough for what is read and written.
+-- The buffers are long enough for what is read and written: the report's length is promised.
 use mathlib.Core.Path.{sym}
 use native.Mathlib.Omega.{arith}
 use lib.Seq.{length-take-le}
@@ -28,18 +28,13 @@ array-share-prefix-out : tie.Need-array-share-prefix-out
 array-share-prefix-out c = search needs
 
 slice-aggregate-write-all : tie.Need-slice-aggregate-write-all
-slice-aggregate-write-all c =
-    let r = c .before .before .before .cusphewa-report in
-    sym (length-take-le (r .result) (r .last .1 .0) (omega arith))
+slice-aggregate-write-all c = let r = c .before .before .cusphewa-report in sym (length-take-le (r .result) (r .last .1 .0) (omega (arith, r .ensures .1 .1)))
 
 write-all-requires : tie.Need-write-all-requires
 write-all-requires c κs = search needs
 
 returns : tie.Need-returns
 returns c = search needs
-
-returns-2 : tie.Need-returns-2
-returns-2 c = search needs
 
 pub main-spec : {M : Type 1} → statement M
 main-spec =
@@ -54,5 +49,4 @@ main-spec =
     array-share-prefix-out
     slice-aggregate-write-all
     write-all-requires
-    returns
-    returns-2)
+    returns)

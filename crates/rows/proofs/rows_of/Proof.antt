@@ -1,9 +1,10 @@
 -- Row by row, from the first place on.
-use Prim.Native.Nat.{_-_, _≤_}
+use Prim.Native.Nat.{_-_, _≤_, _<_}
 use mathlib.Core.Path.{_≡_, refl}
 use mathlib.Core.List.{map}
 use native.Mathlib.Omega.{arith}
 use lib.ListN.{length, take}
+use Rattle.state.specs.Parts.{bytes, ORDER}
 use Rattle.rows.specs.Rows.{row-of, rows-of}
 use Rattle.rows.proofs.Laws.{row-more}
 use borrow.Author.Needs.{needs}
@@ -11,29 +12,32 @@ use Rattle.rows.proofs.rows_of.Statement.{statement}
 use Rattle.rows.proofs.rows_of.Tie as tie
 
 abbrev Inv-loop : tie.InvT-loop
-Inv-loop order runs phase count rows₀ i₀ rows i = (i ≤ count) × (length rows ≡ 32) × (map row-of (take i rows) ≡ rows-of order runs phase i)
+Inv-loop b m count rows₀ i₀ rows i = (i ≤ count) × (length rows ≡ 32) × (map row-of (take i rows) ≡ rows-of (bytes m b) i)
 
 abbrev μ-loop : tie.MeasureT-loop
-μ-loop order runs phase count rows₀ i₀ rows i = count - i
+μ-loop b m count rows₀ i₀ rows i = count - i
 
 loop-holds : tie.Need-loop-holds Inv-loop μ-loop
-unfolding rows-of
 loop-holds c = (search needs, search needs, refl)
 
-element-copy-out-t : tie.Need-element-copy-out-t Inv-loop μ-loop
-element-copy-out-t c = search needs
+order-requires : tie.Need-order-requires Inv-loop μ-loop
+order-requires c κs = search needs
 
 cast-k : tie.Need-cast-k Inv-loop μ-loop
-cast-k c = omega (arith, c .before .before .before .pre .1 (c .before .before .loop .i) (c .before .loop-test .taken))
+cast-k c = search needs
 
-element-copy-out-letter : tie.Need-element-copy-out-letter Inv-loop μ-loop
-element-copy-out-letter c = c .before .before .before .pre .1 (c .before .before .loop .i) (c .before .loop-test .taken)
+runs-requires : tie.Need-runs-requires Inv-loop μ-loop
+runs-requires c κs =
+    let o = c .before .before .before .before in
+    (o .pre .0, rw (c .order .ensures) (o .pre .2 (c .before .before .loop .i) (c .before .loop-test .taken)))
+
+phase-requires : tie.Need-phase-requires Inv-loop μ-loop
+phase-requires c κs =
+    let o = c .before .before .before .before .before in
+    (o .pre .0, rw (c .before .order .ensures) (o .pre .2 (c .before .before .before .loop .i) (c .before .before .loop-test .taken)))
 
 letter-requires : tie.Need-letter-requires Inv-loop μ-loop
 letter-requires c κs = search needs
-
-element-copy-out-t14 : tie.Need-element-copy-out-t14 Inv-loop μ-loop
-element-copy-out-t14 c = c .before .before .before .before .before .pre .1 (c .before .before .before .before .loop .i) (c .before .before .before .loop-test .taken)
 
 mul-rows : tie.Need-mul-rows Inv-loop μ-loop
 mul-rows c = search needs
@@ -50,13 +54,18 @@ loop-less c = search needs
 loop-again : tie.Need-loop-again Inv-loop μ-loop
 loop-again c =
     let l = c .before .before .before .before .before .loop in
-    let a = c .before .before .before .before .before .before .args in
-    (search needs, search needs, row-more (a .order .now) (a .runs .now) (a .phase .now) (l .rows) (l .i) (c .before .letter .result) (omega arith) (c .before .letter .ensures) (l .inv .2))
+    let o = c .before .before .before .before .before .before .before in
+    let d = bytes (o .args .m) (o .args .b .now) in
+    let places : l .i < length (d ORDER) = omega (arith, o .pre .0 .all ORDER) in (
+      search needs,
+      search needs,
+      row-more d (l .rows) (l .i) _ _ _ _ (omega arith) places (c .before .before .before .order .ensures) (c .before .before .runs .ensures) (c .before .phase .ensures) (c .letter .ensures) (l .inv .2),
+    )
 
 returns : tie.Need-returns Inv-loop μ-loop
 returns c =
     let l = c .before .loop in
-    let e : l .i ≡ c .before .before .args .count = omega arith in
+    let e : l .i ≡ c .before .before .before .args .count = omega arith in
     rw (← e) (l .inv .2)
 
 pub rows-of-spec : {M : Type 1} → statement M
@@ -66,11 +75,11 @@ rows-of-spec =
     Inv-loop
     μ-loop
     loop-holds
-    element-copy-out-t
+    order-requires
     cast-k
-    element-copy-out-letter
+    runs-requires
+    phase-requires
     letter-requires
-    element-copy-out-t14
     mul-rows
     array-set-from-rows
     add-i

@@ -1,73 +1,67 @@
--- A refusal for each test, and the effect for each decision.
+-- A refusal for each test, and the effect of each decision.
 use mathlib.Core.Path.{sym, _∙_}
-use native.Mathlib.Omega.{arith}
-use lib.ListN.{length-set}
 use borrow.Author.Tests.{le-ltb, not-true, not-false}
-use Rattle.state.specs.View.{control}
-use Rattle.state.proofs.Stores.{length-fill}
+use Rattle.state.specs.Lent.{own}
 use Rattle.state.proofs.Steps.{refused}
-use Rattle.saves.proofs.Decisions.{decide-5, decide-10, decide-commits, decide-second}
+use Rattle.state.proofs.Lent.{keeps-same, own-moves, own-keeps}
+use Rattle.saves.proofs.Phases.{holds-phase}
+use Rattle.saves.proofs.Decisions.{decide-5, decide-10, decide-commits, decide-second, whole-entered, stored-again, holds-again}
 use borrow.Author.Needs.{needs}
 use Rattle.saves.proofs.decide.Statement.{statement}
 use Rattle.saves.proofs.decide.Tie as tie
 
 returns : tie.Need-returns
-returns c = ((λ nodes sheets placed value seen content wct listed. refused (λ tally. simp (le-ltb _ _ (c .if1 .taken)))), search needs)
+returns c = (λ x. refused (λ tally. simp (le-ltb _ _ (c .if1 .taken))), keeps-same (own (c .before .before .before .args .b .now)))
 
-element-copy-out-p : tie.Need-element-copy-out-p
-element-copy-out-p c = search needs
+phase-requires : tie.Need-phase-requires
+phase-requires c κs = search needs
+
+same-length : tie.Need-same-length
+same-length c = search needs
 
 returns-2 : tie.Need-returns-2
-returns-2 c =
-    let s = c .before .before .before in
-    let a = s .args in
-    ((λ nodes sheets placed value seen content wct listed. decide-5 (control nodes sheets placed (a .owner .now) (a .phase .now) (a .failed .now) (a .runs .now) (a .order .now) (a .place .now) (a .taken .now)) value seen (a .mark .now) (a .claim .now) (a .standing .now) content wct (a .t) (c .before .before .if1 .left) (c .if2 .taken)), search needs)
+returns-2 c = (decide-5 (c .before .before .before .before .before .before .pre .0) (c .before .before .before .before .before .before .args .t) (c .before .before .before .if1 .left) (c .before .phase .ensures) (c .if2 .taken), keeps-same (own (c .before .before .before .before .before .before .args .b .now)))
 
 decidable-requires : tie.Need-decidable-requires
-decidable-requires c κs = (c .before .before .before .pre .0, c .before .before .before .pre .1, c .before .before .if1 .left, c .before .before .before .pre .6, c .before .before .before .pre .7)
+decidable-requires c κs = search needs
+
+same-length-2 : tie.Need-same-length-2
+same-length-2 c = search needs
 
 returns-3 : tie.Need-returns-3
-returns-3 c =
-    let s = c .before .before .before .before .before in
-    let a = s .args in
-    ((λ nodes sheets placed value seen content wct listed. decide-10 (control nodes sheets placed (a .owner .now) (a .phase .now) (a .failed .now) (a .runs .now) (a .order .now) (a .place .now) (a .taken .now)) value seen (a .mark .now) (a .claim .now) (a .standing .now) content wct (a .t) (c .before .before .before .before .if1 .left) (c .before .before .if2 .left) (sym (c .before .decidable .ensures sheets listed) ∙ not-true _ (c .if3 .taken))), search needs)
+returns-3 c = (decide-10 (c .before .before .before .before .before .before .before .before .before .pre .0) (c .before .before .before .before .before .before .before .before .before .args .t) (c .before .before .before .before .before .before .if1 .left) (c .before .before .before .before .phase .ensures) (c .before .before .before .if2 .left) (sym (c .before .decidable .ensures) ∙ not-true _ (c .if3 .taken)), keeps-same (own (c .before .before .before .before .before .before .before .before .before .args .b .now)))
 
-element-copy-out-f : tie.Need-element-copy-out-f
-element-copy-out-f c = search needs
+failed-requires : tie.Need-failed-requires
+failed-requires c κs = search needs
 
-element-write-phase : tie.Need-element-write-phase
-element-write-phase c = search needs
+set-phase-requires : tie.Need-set-phase-requires
+set-phase-requires c κs = search needs
+
+same-length-3 : tie.Need-same-length-3
+same-length-3 c = search needs
 
 returns-4 : tie.Need-returns-4
-returns-4 c =
-    let s = c .before .before .before .before .before .before .before in
-    let a = s .args in (
-      (λ nodes sheets placed value seen content wct listed. decide-commits (control nodes sheets placed (a .owner .now) (a .phase .now) (a .failed .now) (a .runs .now) (a .order .now) (a .place .now) (a .taken .now)) value seen (a .mark .now) (a .claim .now) (a .standing .now) content wct (a .t) (c .before .before .before .before .before .before .if1 .left) (c .before .before .before .before .if2 .left) (s .pre .3) (sym (c .before .before .before .decidable .ensures sheets listed) ∙ not-false _ (c .before .before .if3 .left)) (c .if4 .taken)),
-      (rw length-set (s .pre .3), s .pre .4, s .pre .5),
-    )
+returns-4 c = let s = c .before .before .before .before .before .before .before .before .before .before .before .before .before .before .before .before in
+    let g = sym (c .before .before .before .before .before .before .before .before .decidable .ensures) ∙ not-false _ (c .before .before .before .before .before .before .before .if3 .left) in
+    (own-moves (s .args .b .now) _ (c .before .before .set-phase .ensures) (decide-commits (s .pre .0) (s .args .t) (c .before .before .before .before .before .before .before .before .before .before .before .before .before .if1 .left) (c .before .before .before .before .before .before .before .before .before .before .before .phase .ensures) (c .before .before .before .before .before .before .before .before .before .before .if2 .left) g (c .before .before .before .before .before .failed .ensures) (c .before .before .before .before .if4 .taken)), own-keeps (s .args .b .now) _ (c .before .before .set-phase .ensures) (holds-phase (s .pre .0) (s .args .t) 4))
+
+enter-run-requires : tie.Need-enter-run-requires
+enter-run-requires c κs = search needs
 
 clear-row-requires : tie.Need-clear-row-requires
-clear-row-requires c κs = search needs
+clear-row-requires c κs = let s = c .before .before .before .before .before .before .before .before .before .before .before .before .before .before .before .before .before in
+    let g = sym (c .before .before .before .before .before .before .before .before .before .decidable .ensures) ∙ not-false _ (c .before .before .before .before .before .before .before .before .if3 .left) in
+    (whole-entered (s .pre .0) (s .args .t) (c .before .before .before .before .before .before .before .before .before .before .before .before .before .before .if1 .left) (c .before .before .before .before .before .before .before .before .before .before .before .before .phase .ensures) (c .before .before .before .before .before .before .before .before .before .before .before .if2 .left) g (c .before .before .before .before .before .before .failed .ensures) (c .before .before .before .enter-run .ensures), s .pre .0 .sheets16, c .before .before .before .before .before .before .before .before .before .before .before .before .before .before .if1 .left)
 
-element-copy-out-r : tie.Need-element-copy-out-r
-element-copy-out-r c = search needs
-
-element-write-phase-2 : tie.Need-element-write-phase-2
-element-write-phase-2 c = search needs
-
-add-runs : tie.Need-add-runs
-add-runs c = record { fits = omega (arith, c .before .before .before .before .before .before .before .before .before .before .pre .2 (c .before .before .before .before .before .before .before .before .before .before .args .t)) }
-
-element-write-runs : tie.Need-element-write-runs
-element-write-runs c = search needs
+same-length-4 : tie.Need-same-length-4
+same-length-4 c = search needs
 
 returns-5 : tie.Need-returns-5
-returns-5 c =
-    let s = c .before .before .before .before .before .before .before .before .before .before in
-    let a = s .args in (
-      (λ nodes sheets placed value seen content wct listed.
-          rw (c .before .clear-row .ensures) (decide-second (control nodes sheets placed (a .owner .now) (a .phase .now) (a .failed .now) (a .runs .now) (a .order .now) (a .place .now) (a .taken .now)) value seen (a .mark .now) (a .claim .now) (a .standing .now) content wct (a .t) (c .before .before .before .before .before .before .before .before .before .if1 .left) (c .before .before .before .before .before .before .before .if2 .left) (s .pre .3) (sym (c .before .before .before .before .before .before .decidable .ensures sheets listed) ∙ not-false _ (c .before .before .before .before .before .if3 .left)) (c .before .before .before .if4 .left) (s .pre .4) (s .pre .5))),
-      (rw length-set (s .pre .3), rw length-set (s .pre .4), rw (c .before .clear-row .ensures, length-fill) (s .pre .5)),
+returns-5 c = let s = c .before .before .before .before .before .before .before .before .before .before .before .before .before .before .before .before .before .before .before .before in
+    let g = sym (c .before .before .before .before .before .before .before .before .before .before .before .before .decidable .ensures) ∙ not-false _ (c .before .before .before .before .before .before .before .before .before .before .before .if3 .left) in
+    let e = stored-again (s .pre .0) (s .args .t) (c .before .before .before .before .before .before .before .before .before .before .before .before .before .before .before .before .before .if1 .left) (c .before .before .before .before .before .before .before .before .before .before .before .before .before .before .before .phase .ensures) (c .before .before .before .before .before .before .before .before .before .before .before .before .before .before .if2 .left) g (c .before .before .before .before .before .before .before .before .before .failed .ensures) (c .before .before .before .before .before .before .enter-run .ensures) (c .before .before .clear-row .ensures) in (
+      own-moves (s .args .b .now) _ e (decide-second (s .pre .0) (s .args .t) (c .before .before .before .before .before .before .before .before .before .before .before .before .before .before .before .before .before .if1 .left) (c .before .before .before .before .before .before .before .before .before .before .before .before .before .before .before .phase .ensures) (c .before .before .before .before .before .before .before .before .before .before .before .before .before .before .if2 .left) g (c .before .before .before .before .before .before .before .before .before .failed .ensures) (c .before .before .before .before .before .before .before .before .if4 .left)),
+      own-keeps (s .args .b .now) _ e (holds-again (s .pre .0) (s .args .t) (c .before .before .before .before .before .before .before .before .before .before .before .before .before .before .before .before .before .if1 .left) (c .before .before .before .before .before .before .before .before .before .before .before .before .before .before .before .phase .ensures) (c .before .before .before .before .before .before .before .before .before .before .before .before .before .before .if2 .left) g (c .before .before .before .before .before .before .before .before .before .failed .ensures)),
     )
 
 pub decide-spec : {M : Type 1} → statement M
@@ -75,16 +69,17 @@ decide-spec =
     tie.close
     (tie.spec
     returns
-    element-copy-out-p
+    phase-requires
+    same-length
     returns-2
     decidable-requires
+    same-length-2
     returns-3
-    element-copy-out-f
-    element-write-phase
+    failed-requires
+    set-phase-requires
+    same-length-3
     returns-4
+    enter-run-requires
     clear-row-requires
-    element-copy-out-r
-    element-write-phase-2
-    add-runs
-    element-write-runs
+    same-length-4
     returns-5)

@@ -1,89 +1,82 @@
 -- A refusal for each test, and the effect in each run.
-use native.Mathlib.Omega.{arith}
-use Rattle.state.proofs.Behind.{behind-placed}
-use lib.ListN.{length-set}
 use borrow.Author.Tests.{le-ltb}
-use Rattle.state.specs.View.{control}
-use Rattle.state.proofs.Stores.{length-fill}
+use Rattle.state.specs.Lent.{listing}
 use Rattle.state.proofs.Steps.{refused}
-use Rattle.saves.proofs.Phases.{submit-second, submit-5}
-use Rattle.saves.proofs.Order.{submit-first}
+use Rattle.state.proofs.Lent.{keeps-same, own-moves, listing-keeps}
+use Rattle.saves.proofs.Phases.{submit-5, submit-second, holds-phase}
+use Rattle.saves.proofs.Order.{whole-claimed, whole-submitted, room-submitted, stored, submit-first, shaped-first, listed-first}
+use mathlib.Core.Path.{refl}
 use borrow.Author.Needs.{needs}
 use Rattle.saves.proofs.submit.Statement.{statement}
 use Rattle.saves.proofs.submit.Tie as tie
 
 returns : tie.Need-returns
-returns c = ((λ nodes owner failed runs taken value seen standing content wct ready. refused (λ tally. simp (le-ltb _ _ (c .if1 .taken)))), (search needs, ((λ standing taken gone h b. b), λ l. l)))
+returns c = (λ x. refused (λ tally. simp (le-ltb _ _ (c .if1 .taken))), keeps-same (listing (c .before .before .before .args .b .now) (c .before .before .before .args .listed .now)))
 
-element-copy-out-p : tie.Need-element-copy-out-p
-element-copy-out-p c = search needs
-
-claim-row-requires : tie.Need-claim-row-requires
-claim-row-requires c κs = search needs
+phase-requires : tie.Need-phase-requires
+phase-requires c κs = search needs
 
 list-row-requires : tie.Need-list-row-requires
 list-row-requires c κs = search needs
 
-element-write-phase : tie.Need-element-write-phase
-element-write-phase c = search needs
+claim-row-requires : tie.Need-claim-row-requires
+claim-row-requires c κs = search needs
 
-element-write-order : tie.Need-element-write-order
-element-write-order c =
-    let q = c .before .before .before .before .before in
-    let s = q .before .before .before in
-    let room = s .pre .1 (s .args .t) (q .before .before .if1 .left) (q .if2 .taken) in
-    omega (arith, s .pre .3)
+set-phase-requires : tie.Need-set-phase-requires
+set-phase-requires c κs = let s = c .before .before .before .before .before .before .before .before .before .before .before .before .before .before .before .before in (whole-claimed (s .pre .0) (s .args .t) (c .before .before .before .before .before .before .before .before .before .before .before .before .before .if1 .left) (c .before .before .before .before .before .before .before .before .before .before .before .phase .ensures) (c .before .before .before .before .before .before .before .before .before .before .if2 .taken) (c .before .before .before .claim-row .ensures) refl, c .before .before .before .before .before .before .before .before .before .before .before .before .before .if1 .left)
 
-element-write-place : tie.Need-element-write-place
-element-write-place c = search needs
+join-requires : tie.Need-join-requires
+join-requires c κs = let s = c .before .before .before .before .before .before .before .before .before .before .before .before .before .before .before .before .before .before .before .before in
+    let e = c .before .before .before .before .before .before .before .claim-row .ensures in
+    let f = c .before .before .before .set-phase .ensures in
+    (whole-submitted (s .pre .0) (s .args .t) (c .before .before .before .before .before .before .before .before .before .before .before .before .before .before .before .before .before .if1 .left) (c .before .before .before .before .before .before .before .before .before .before .before .before .before .before .before .phase .ensures) (c .before .before .before .before .before .before .before .before .before .before .before .before .before .before .if2 .taken) e f, c .before .before .before .before .before .before .before .before .before .before .before .before .before .before .before .before .before .if1 .left, room-submitted (s .pre .0) (s .args .t) (c .before .before .before .before .before .before .before .before .before .before .before .before .before .before .before .before .before .if1 .left) (c .before .before .before .before .before .before .before .before .before .before .before .before .before .before .before .phase .ensures) (c .before .before .before .before .before .before .before .before .before .before .before .before .before .before .if2 .taken) e f)
 
-add-t30 : tie.Need-add-t30
-add-t30 c = search needs
+same-length : tie.Need-same-length
+same-length c = search needs
+
+same-length-2 : tie.Need-same-length-2
+same-length-2 c = search needs
 
 returns-2 : tie.Need-returns-2
-returns-2 c =
-    let r = c .before .before .before .claim-row .ensures in
-    let q = c .before .before .before .before .before in
-    let s = q .before .before .before in
-    let a = s .args in
-    let t32 = q .before .before .if1 .left in
-    let first = q .if2 .taken in
-    let room = s .pre .1 (a .t) t32 first in (
-      (λ nodes owner failed runs taken value seen standing content wct ready.
-          rw r (submit-first (control nodes (a .sheets) (a .placed) owner (a .phase .now) failed runs (a .order .now) (a .place .now) taken) (a .mark .now) (a .claim .now) (a .t) t32 first ready value seen standing content wct (s .pre .5))),
-      ((omega arith, rw length-set (s .pre .2), rw length-set (s .pre .3), rw length-set (s .pre .4), rw (r, length-fill) (s .pre .5)), ((λ standing taken gone h b. behind-placed b (a .placed) (a .t) h), λ l. rw r (c .list-row .ensures (a .claim .now) (s .pre .5) l))),
+returns-2 c = let s = c .before .before .before .before .before .before .before .before .before .before .before .before .before .before .before .before .before .before .before .before .before .before .before in
+    let e = stored (s .pre .0) (s .args .t) (c .before .before .before .before .before .before .before .before .before .before .before .before .before .before .before .before .before .before .before .before .if1 .left) (c .before .before .before .before .before .before .before .before .before .before .before .before .before .before .before .before .before .before .phase .ensures) (c .before .before .before .before .before .before .before .before .before .before .before .before .before .before .before .before .before .if2 .taken) (c .before .before .before .before .before .before .before .before .before .before .claim-row .ensures) (c .before .before .before .before .before .before .set-phase .ensures) (c .before .before .join .ensures) in (
+      own-moves (s .args .b .now) _ e (submit-first (s .pre .0) (s .args .t) (c .before .before .before .before .before .before .before .before .before .before .before .before .before .before .before .before .before .before .before .before .if1 .left) (c .before .before .before .before .before .before .before .before .before .before .before .before .before .before .before .before .before .before .phase .ensures) (c .before .before .before .before .before .before .before .before .before .before .before .before .before .before .before .before .before .if2 .taken)),
+      listing-keeps (s .args .b .now) (s .args .listed .now) _ _ e (shaped-first (s .pre .0) (s .args .t) (c .before .before .before .before .before .before .before .before .before .before .before .before .before .before .before .before .before .before .before .before .if1 .left) (c .before .before .before .before .before .before .before .before .before .before .before .before .before .before .before .before .before .before .phase .ensures) (c .before .before .before .before .before .before .before .before .before .before .before .before .before .before .before .before .before .if2 .taken))
+          (listed-first (s .pre .0) (s .args .t) (c .before .before .before .before .before .before .before .before .before .before .before .before .before .before .before .before .before .before .before .before .if1 .left) (c .before .before .before .before .before .before .before .before .before .before .before .before .before .before .before .before .before .before .phase .ensures) (c .before .before .before .before .before .before .before .before .before .before .before .before .before .before .before .before .before .if2 .taken) (c .before .before .before .before .before .before .before .before .before .before .before .before .before .before .list-row .ensures)),
     )
 
-element-write-phase-2 : tie.Need-element-write-phase-2
-element-write-phase-2 c = search needs
+set-phase-requires-2 : tie.Need-set-phase-requires-2
+set-phase-requires-2 c κs = search needs
+
+same-length-3 : tie.Need-same-length-3
+same-length-3 c = search needs
 
 returns-3 : tie.Need-returns-3
-returns-3 c =
-    let s = c .before .before .before .before in
-    let a = s .args in (
-      (λ nodes owner failed runs taken value seen standing content wct ready. submit-second (control nodes (a .sheets) (a .placed) owner (a .phase .now) failed runs (a .order .now) (a .place .now) taken) value seen (a .mark .now) (a .claim .now) standing content wct (a .t) (c .before .before .before .if1 .left) (s .pre .2) (c .if3 .taken)),
-      ((s .pre .0, rw length-set (s .pre .2), s .pre .3, s .pre .4, s .pre .5), ((λ standing taken gone h b. b), λ l. l)),
-    )
+returns-3 c = let s = c .before .before .before .before .before .before .before .before .before .before .before in
+    let h = holds-phase (s .pre .0) (s .args .t) 4 in
+    (own-moves (s .args .b .now) _ (c .before .before .set-phase2 .ensures) (submit-second (s .pre .0) (s .args .t) (c .before .before .before .before .before .before .before .before .if1 .left) (c .before .before .before .before .before .before .phase .ensures) (c .before .before .before .before .if3 .taken)), listing-keeps (s .args .b .now) (s .args .listed .now) _ _ (c .before .before .set-phase2 .ensures) (h .shaped) (h .hints _))
+
+same-length-4 : tie.Need-same-length-4
+same-length-4 c = search needs
 
 returns-4 : tie.Need-returns-4
-returns-4 c =
-    let s = c .before .before .before .before in
-    let a = s .args in
-    ((λ nodes owner failed runs taken value seen standing content wct ready. submit-5 (control nodes (a .sheets) (a .placed) owner (a .phase .now) failed runs (a .order .now) (a .place .now) taken) value seen (a .mark .now) (a .claim .now) standing content wct (a .t) (c .before .before .before .if1 .left) (c .before .if2 .left) (c .if3 .left)), (search needs, ((λ standing taken gone h b. b), λ l. l)))
+returns-4 c = (submit-5 (c .before .before .before .before .before .before .before .pre .0) (c .before .before .before .before .before .before .before .args .t) (c .before .before .before .before .if1 .left) (c .before .before .phase .ensures) (c .before .if2 .left) (c .if3 .left), keeps-same (listing (c .before .before .before .before .before .before .before .args .b .now) (c .before .before .before .before .before .before .before .args .listed .now)))
 
 pub submit-spec : {M : Type 1} → statement M
 submit-spec =
     tie.close
     (tie.spec
     returns
-    element-copy-out-p
-    claim-row-requires
+    phase-requires
     list-row-requires
-    element-write-phase
-    element-write-order
-    element-write-place
-    add-t30
+    claim-row-requires
+    set-phase-requires
+    join-requires
+    same-length
+    same-length-2
     returns-2
-    element-write-phase-2
+    set-phase-requires-2
+    same-length-3
     returns-3
+    same-length-4
     returns-4)

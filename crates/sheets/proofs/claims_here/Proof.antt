@@ -1,108 +1,87 @@
--- Claimed sheet by claimed sheet, from the last one listed.
-use native.Mathlib.Omega.{arith}
-use Prim.Native.Nat.{ℕ, _+_, _-_, _*_, _≤_, _<_}
-use mathlib.Core.Path.{_≡_, refl, sym, _∙_}
-use mathlib.Core.Bool.{Bool, false, _&&_, and-false}
-use mathlib.Core.List.{List}
-use lib.ListN.{getD}
-use lib.Dec.{eqb}
-use Rattle.rules.specs.Table.{any}
+-- Claimed sheet by claimed sheet, from the last one listed; a sheet of another node does not count.
+use mathlib.Core.Path.{refl}
+use mathlib.Core.Bool.{true, _&&_, and-false}
+use borrow.Author.Tests.{eq-eqb, ne-eqb}
 use Rattle.rules.specs.State.{claims}
-use Rattle.state.specs.View.{claim-in, set?}
-use Rattle.state.proofs.Tables.{any-here, any-down, any-end}
-use Rattle.state.proofs.Codes.{claims-code}
-use Rattle.state.proofs.Stores.{flat-in}
-use Rattle.state.proofs.Listed.{any-listed, unclaimed}
+use Rattle.rules.specs.Steps.{owns}
+use Rattle.state.specs.Parts.{bytes, hints, CLAIM}
+use Rattle.state.specs.Lent.{own, seen-by}
+use Rattle.state.proofs.Listed.{unclaimed}
+use Rattle.sheets.proofs.Left.{Left, left-all, left-end, left-sheet, left-on, left-here}
+use Rattle.sheets.proofs.Sheets.{claims-read, owned, not-owned}
 use borrow.Author.Needs.{needs}
 use Rattle.sheets.proofs.claims_here.Statement.{statement}
 use Rattle.sheets.proofs.claims_here.Tie as tie
 
-abbrev test : (owner claim : List ℕ) → (n t k : ℕ) → Bool
-test owner claim n t k = eqb (getD owner k 0) n && claims (claim-in claim t k)
-
-test-is : (owner claim : List ℕ) (n t k : ℕ) → k < 64 → test owner claim n t k ≡ (eqb (getD owner k 0) n && set? (getD claim (t * 64 + k) 0))
-test-is owner claim n t k h = rw (flat-in claim t k h, claims-code (getD claim (t * 64 + k) 0))
-
--- the test at the sheet that is listed at i
-abbrev at : (owner claim listed : List ℕ) → (n t i : ℕ) → Bool
-at owner claim listed n t i = test owner claim n t (getD listed (t * 64 + i) 0)
-
-none : (owner claim : List ℕ) (n t k : ℕ) → getD claim (t * 64 + k) 0 ≡ 0 → test owner claim n t k ≡ false
-none owner claim n t k e = rw (unclaimed claim t k e) (and-false (eqb (getD owner k 0) n))
-
 abbrev Inv-loop : tie.InvT-loop
-Inv-loop owner claim listed many n t ti i₀ i = (i ≤ getD many t 0) × (any (getD many t 0) (at owner claim listed n t) ≡ any i (at owner claim listed n t))
+Inv-loop b listed m n t ti i₀ i = Left true m (bytes m b) (hints m listed) t (λ k. owns (seen-by m (own b)) n k && claims (seen-by m (own b) .claim t k)) i
 
 abbrev μ-loop : tie.MeasureT-loop
-μ-loop owner claim listed many n t ti i₀ i = i
+μ-loop b listed m n t ti i₀ i = i
 
-element-copy-out-i : tie.Need-element-copy-out-i Inv-loop μ-loop
-element-copy-out-i c = search needs
+many-requires : tie.Need-many-requires Inv-loop μ-loop
+many-requires c κs = search needs
 
 cast-i : tie.Need-cast-i Inv-loop μ-loop
-cast-i c = omega (arith, c .before .pre .1 .few (c .before .args .t) (c .before .pre .0))
+cast-i c = search needs
 
 loop-holds : tie.Need-loop-holds Inv-loop μ-loop
-loop-holds c = (omega arith, refl)
+loop-holds c =
+    let s = c .before .before .before in
+    let a = s .args in
+    left-all true _ (a .t) (s .pre .0) (s .pre .1) (s .pre .2) (λ k e. rw (unclaimed (a .m) (bytes (a .m) (a .b .now) CLAIM) (a .t) k e, and-false)) (c .many .ensures)
 
 sub-i : tie.Need-sub-i Inv-loop μ-loop
 sub-i c = search needs
 
-mul-k : tie.Need-mul-k Inv-loop μ-loop
-mul-k c = search needs
-
-add-k : tie.Need-add-k Inv-loop μ-loop
-add-k c = omega (arith, c .before .before .before .pre .1 .few (c .before .before .before .args .t) (c .before .before .before .pre .0), c .before .loop .inv .0)
-
-element-copy-out-k : tie.Need-element-copy-out-k Inv-loop μ-loop
-element-copy-out-k c = omega (arith, c .before .before .before .pre .1 .few (c .before .before .before .args .t) (c .before .before .before .pre .0), c .before .loop .inv .0, c .before .before .before .pre .0)
+sheet-at-requires : tie.Need-sheet-at-requires Inv-loop μ-loop
+sheet-at-requires c κs = search needs
 
 cast-k : tie.Need-cast-k Inv-loop μ-loop
-cast-k c = omega (arith, c .before .before .before .before .pre .1 .sheet (c .before .before .before .before .args .t) (c .before .before .loop .i - 1) (c .before .before .before .before .pre .0) (omega arith))
+cast-k c = search needs
 
-element-copy-out-o : tie.Need-element-copy-out-o Inv-loop μ-loop
-element-copy-out-o c = omega (arith, c .before .before .before .before .pre .1 .sheet (c .before .before .before .before .args .t) (c .before .before .loop .i - 1) (c .before .before .before .before .pre .0) (omega arith))
+owner-requires : tie.Need-owner-requires Inv-loop μ-loop
+owner-requires c κs =
+    let l = c .before .before .loop .inv in
+    (l .ready .shaped .whole, left-sheet l (c .before .loop-test .taken) (c .sheet-at .ensures))
 
-mul-c : tie.Need-mul-c Inv-loop μ-loop
-mul-c c = search needs
-
-add-c : tie.Need-add-c Inv-loop μ-loop
-add-c c = omega (arith, c .before .before .before .before .before .pre .1 .sheet (c .before .before .before .before .before .args .t) (c .before .before .before .loop .i - 1) (c .before .before .before .before .before .pre .0) (omega arith), c .before .before .before .before .before .pre .0)
-
-element-copy-out-c : tie.Need-element-copy-out-c Inv-loop μ-loop
-element-copy-out-c c = omega (arith, c .before .before .before .before .before .pre .1 .sheet (c .before .before .before .before .before .args .t) (c .before .before .before .loop .i - 1) (c .before .before .before .before .before .pre .0) (omega arith), c .before .before .before .before .before .pre .0)
-
-claimed-here-requires : tie.Need-claimed-here-requires Inv-loop μ-loop
-claimed-here-requires c κs = search needs
+claim-requires : tie.Need-claim-requires Inv-loop μ-loop
+claim-requires c κs =
+    let p = c .before .before in
+    let l = p .before .before .loop .inv in
+    (l .ready .shaped .whole, l .save, left-sheet l (p .before .loop-test .taken) (p .sheet-at .ensures))
 
 returns : tie.Need-returns Inv-loop μ-loop
 returns c =
-    let l = c .before .before .before .before .before .before .loop in
-    let a = c .before .before .before .before .before .before .before .before .args in
-    λ sheets listed.
-    sym (any-listed (listed .lists (a .t) (c .before .before .before .before .before .before .before .before .pre .0)) (test (a .owner .now) (a .claim .now) (a .n) (a .t)) (λ k h. none (a .owner .now) (a .claim .now) (a .n) (a .t) k)
-    ∙ l .inv .1 ∙ any-here (l .i) (at (a .owner .now) (a .claim .now) (a .listed .now) (a .n) (a .t)) (c .before .before .before .before .before .loop-test .taken)
-    (test-is (a .owner .now) (a .claim .now) (a .n) (a .t) _ (c .before .before .before .before .before .before .before .before .pre .1 .sheet (a .t) (l .i - 1) (c .before .before .before .before .before .before .before .before .pre .0) (omega arith)) ∙ sym (c .before .claimed-here .ensures) ∙ c .if1 .taken))
+    let p = c .before .before .before .before in
+    let l = p .before .before .loop .inv in
+    let a = c .before .before .before .before .before .before .before .before .before .before .args in
+    left-here l (p .before .loop-test .taken) (p .sheet-at .ensures)
+    (owned (c .before .before .before .owner .ensures) (c .before .before .if1 .taken)
+    (claims-read (bytes (a .m) (a .b .now)) (left-sheet l (p .before .loop-test .taken) (p .sheet-at .ensures)) (a .t) (c .before .claim .ensures))) (rw (ne-eqb _ _ (c .if2 .taken)))
 
 loop-less : tie.Need-loop-less Inv-loop μ-loop
 loop-less c = search needs
 
 loop-again : tie.Need-loop-again Inv-loop μ-loop
 loop-again c =
-    let l = c .before .before .before .before .before .before .loop in
-    let a = c .before .before .before .before .before .before .before .before .args in (
-      omega arith,
-      l .inv .1 ∙ any-down (l .i) (at (a .owner .now) (a .claim .now) (a .listed .now) (a .n) (a .t)) (c .before .before .before .before .before .loop-test .taken)
-          (test-is (a .owner .now) (a .claim .now) (a .n) (a .t) _ (c .before .before .before .before .before .before .before .before .pre .1 .sheet (a .t) (l .i - 1) (c .before .before .before .before .before .before .before .before .pre .0) (omega arith)) ∙ sym (c .before .claimed-here .ensures) ∙ c .if1 .left),
-    )
+    let p = c .before .before .before .before in
+    let l = p .before .before .loop .inv in
+    let a = c .before .before .before .before .before .before .before .before .before .before .args in
+    left-on l (p .before .loop-test .taken) (p .sheet-at .ensures)
+    (owned (c .before .before .before .owner .ensures) (c .before .before .if1 .taken)
+    (claims-read (bytes (a .m) (a .b .now)) (left-sheet l (p .before .loop-test .taken) (p .sheet-at .ensures)) (a .t) (c .before .claim .ensures))) (rw (eq-eqb _ _ (c .if2 .left)))
+
+loop-less-2 : tie.Need-loop-less-2 Inv-loop μ-loop
+loop-less-2 c = search needs
+
+loop-again-2 : tie.Need-loop-again-2 Inv-loop μ-loop
+loop-again-2 c =
+    let p = c .before .before in
+    left-on (p .before .before .loop .inv) (p .before .loop-test .taken) (p .sheet-at .ensures) (not-owned (c .before .owner .ensures) (c .if1 .left) _) refl
 
 returns-2 : tie.Need-returns-2 Inv-loop μ-loop
-returns-2 c =
-    let l = c .before .loop in
-    let a = c .before .before .before .args in
-    λ sheets listed.
-    sym (any-listed (listed .lists (a .t) (c .before .before .before .pre .0)) (test (a .owner .now) (a .claim .now) (a .n) (a .t)) (λ k h. none (a .owner .now) (a .claim .now) (a .n) (a .t) k)
-    ∙ l .inv .1 ∙ any-end (l .i) (at (a .owner .now) (a .claim .now) (a .listed .now) (a .n) (a .t)) (omega arith))
+returns-2 c = left-end (c .before .loop .inv) (c .loop-test .left)
 
 pub claims-here-spec : {M : Type 1} → statement M
 claims-here-spec =
@@ -110,20 +89,17 @@ claims-here-spec =
     (tie.spec
     Inv-loop
     μ-loop
-    element-copy-out-i
+    many-requires
     cast-i
     loop-holds
     sub-i
-    mul-k
-    add-k
-    element-copy-out-k
+    sheet-at-requires
     cast-k
-    element-copy-out-o
-    mul-c
-    add-c
-    element-copy-out-c
-    claimed-here-requires
+    owner-requires
+    claim-requires
     returns
     loop-less
     loop-again
+    loop-less-2
+    loop-again-2
     returns-2)

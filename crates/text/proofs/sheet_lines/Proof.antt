@@ -12,14 +12,17 @@ use Rattle.text.proofs.sheet_lines.Statement.{statement}
 use Rattle.text.proofs.sheet_lines.Tie as tie
 
 abbrev Inv-loop : tie.InvT-loop
-Inv-loop buf₀ at content wct m e₀ k₀ buf e k = (k ≤ m) × Wrote buf₀ at (rules.sheet-lines (sheets-of content wct) k) (35 * k) e buf
+Inv-loop buf₀ at w m e₀ k₀ buf e k = (k ≤ m) × Wrote buf₀ at (rules.sheet-lines (sheets-of m w) k) (35 * k) e buf
 
 abbrev μ-loop : tie.MeasureT-loop
-μ-loop buf₀ at content wct m e₀ k₀ buf e k = m - k
+μ-loop buf₀ at w m e₀ k₀ buf e k = m - k
 
 loop-holds : tie.Need-loop-holds Inv-loop μ-loop
 unfolding rules.sheet-lines
 loop-holds c = (search needs, wrote-none _ _)
+
+add-i : tie.Need-add-i Inv-loop μ-loop
+add-i c = search needs
 
 cast-three-line : tie.Need-cast-three-line Inv-loop μ-loop
 cast-three-line c = search needs
@@ -27,19 +30,19 @@ cast-three-line c = search needs
 mul-three-line : tie.Need-mul-three-line Inv-loop μ-loop
 mul-three-line c = search needs
 
-element-copy-out-three-line : tie.Need-element-copy-out-three-line Inv-loop μ-loop
-element-copy-out-three-line c = search needs
+shared-slice-read-three-line : tie.Need-shared-slice-read-three-line Inv-loop μ-loop
+shared-slice-read-three-line c = search needs
 
 mul-three-line-2 : tie.Need-mul-three-line-2 Inv-loop μ-loop
 mul-three-line-2 c = search needs
 
-element-copy-out-three-line-2 : tie.Need-element-copy-out-three-line-2 Inv-loop μ-loop
-element-copy-out-three-line-2 c = search needs
+shared-slice-read-three-line-2 : tie.Need-shared-slice-read-three-line-2 Inv-loop μ-loop
+shared-slice-read-three-line-2 c = search needs
 
 three-line-requires : tie.Need-three-line-requires Inv-loop μ-loop
 three-line-requires c κs =
     let l = c .before .before .before .before .loop in
-    let w = wrote-length (l .inv .1) in
+    let n = wrote-length (l .inv .1) in
     let e = wrote-end (l .inv .1) in
     omega arith
 
@@ -53,8 +56,8 @@ loop-again : tie.Need-loop-again Inv-loop μ-loop
 unfolding rules.sheet-line
 loop-again c =
     let l = c .before .before .before .before .before .before .before .loop in
-    let a = c .before .before .before .before .before .before .before .before .before .args in
-    (search needs, wrote-next (sheet-more (a .content .now) (a .wct .now) (l .k)) (omega arith) (l .inv .1) (c .before .before .three-line .ensures))
+    let a = c .before .before .before .before .before .before .before .before .before .before .args in
+    (search needs, wrote-next (sheet-more (a .m) (a .w .now) (l .k)) (omega arith) (l .inv .1) (c .before .before .three-line .ensures))
 
 same-length : tie.Need-same-length Inv-loop μ-loop
 same-length c = wrote-length (c .before .loop .inv .1)
@@ -62,8 +65,8 @@ same-length c = wrote-length (c .before .loop .inv .1)
 returns : tie.Need-returns Inv-loop μ-loop
 returns c =
     let l = c .before .loop in
-    let e : l .k ≡ c .before .before .before .args .m = omega arith in
-    rw (← e) (l .inv .1)
+    let e : l .k ≡ c .before .before .before .before .args .m = omega arith in
+    rw e at (l .inv .1)
 
 pub sheet-lines-spec : {M : Type 1} → statement M
 sheet-lines-spec =
@@ -72,11 +75,12 @@ sheet-lines-spec =
     Inv-loop
     μ-loop
     loop-holds
+    add-i
     cast-three-line
     mul-three-line
-    element-copy-out-three-line
+    shared-slice-read-three-line
     mul-three-line-2
-    element-copy-out-three-line-2
+    shared-slice-read-three-line-2
     three-line-requires
     add-k
     loop-less

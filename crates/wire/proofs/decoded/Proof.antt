@@ -19,32 +19,35 @@ shared-slice-read-t10 c =
     let w : operand-bytes (c .before .before .before .before .args .b) ≡ 2 = ap operand-bytes (c .before .before .match .keys2) in
     omega arith
 
+cast-t11 : tie.Need-cast-t11
+cast-t11 c = omega (arith, c .shared-slice-known4 .given 1)
+
 write-requires : tie.Need-write-requires
 unfolding operand-bytes
 write-requires c κs =
     let w : operand-bytes (c .before .before .args .b) ≡ 6 = ap operand-bytes (c .match .keys3) in
     omega arith
 
-shared-slice-read-t14 : tie.Need-shared-slice-read-t14
-shared-slice-read-t14 c = search needs
+shared-slice-read-t15 : tie.Need-shared-slice-read-t15
+shared-slice-read-t15 c = search needs
 
-shared-slice-read-t17 : tie.Need-shared-slice-read-t17
-shared-slice-read-t17 c = search needs
+shared-slice-read-t18 : tie.Need-shared-slice-read-t18
+shared-slice-read-t18 c = search needs
 
-shared-slice-read-t20 : tie.Need-shared-slice-read-t20
-shared-slice-read-t20 c = search needs
+shared-slice-read-t21 : tie.Need-shared-slice-read-t21
+shared-slice-read-t21 c = search needs
 
-shared-slice-read-t23 : tie.Need-shared-slice-read-t23
-shared-slice-read-t23 c = search needs
+shared-slice-read-t24 : tie.Need-shared-slice-read-t24
+shared-slice-read-t24 c = search needs
 
-shared-slice-read-t25 : tie.Need-shared-slice-read-t25
+shared-slice-read-t26 : tie.Need-shared-slice-read-t26
 unfolding operand-bytes
-shared-slice-read-t25 c =
+shared-slice-read-t26 c =
     let w : operand-bytes (c .before .before .before .before .args .b) ≡ 2 = ap operand-bytes (c .before .before .match .keys7) in
     omega arith
 
-shared-slice-read-t28 : tie.Need-shared-slice-read-t28
-shared-slice-read-t28 c = search needs
+shared-slice-read-t29 : tie.Need-shared-slice-read-t29
+shared-slice-read-t29 c = search needs
 
 returns : tie.Need-returns
 returns c = rw (front-whole _ _ 1 (c .before .match .keys1) (c .before .before .before .pre), first-byte)
@@ -83,13 +86,14 @@ decoded-spec =
     shared-slice-read-t5
     shared-slice-read-t8
     shared-slice-read-t10
+    cast-t11
     write-requires
-    shared-slice-read-t14
-    shared-slice-read-t17
-    shared-slice-read-t20
-    shared-slice-read-t23
-    shared-slice-read-t25
-    shared-slice-read-t28
+    shared-slice-read-t15
+    shared-slice-read-t18
+    shared-slice-read-t21
+    shared-slice-read-t24
+    shared-slice-read-t26
+    shared-slice-read-t29
     returns
     returns-2
     returns-3

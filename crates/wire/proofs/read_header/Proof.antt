@@ -12,6 +12,9 @@ byte-at-requires c κs = search needs
 byte-at-requires-2 : tie.Need-byte-at-requires-2
 byte-at-requires-2 c κs = search needs
 
+cast-m : tie.Need-cast-m
+cast-m c = search needs
+
 returns : tie.Need-returns
 returns c = refused (c .before .before .before .before .args .session .now) (λ h. omega arith)
 
@@ -64,6 +67,7 @@ read-header-spec =
     (tie.spec
     byte-at-requires
     byte-at-requires-2
+    cast-m
     returns
     cast-if2
     add-if2

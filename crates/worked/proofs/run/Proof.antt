@@ -1,13 +1,17 @@
--- The arrays show the rules' state after the commands so far.
-use Prim.Native.Nat.{_-_, _≤_}
+-- The slices show the rules' state after the commands so far.
+use Prim.Native.Nat.{_-_, _*_, _≤_}
 use mathlib.Core.Path.{_≡_, refl, sym, subst}
 use native.Mathlib.Omega.{arith}
+use lib.ListN.{length}
 use Rattle.rules.specs.State.{fresh}
+use Rattle.rules.specs.Sizes.{max-sheets}
 use Rattle.wire.specs.Meaning.{command-of}
-use Rattle.state.specs.View.{control, view, no-tally}
-use Rattle.state.specs.Ready.{Shaped, Sized, Known, Behind}
-use Rattle.state.specs.Listed.{Listed}
-use Rattle.state.proofs.Ready.{known-any}
+use Rattle.state.specs.Parts.{all-of, byte-sizes, hint-sizes, bytes}
+use Rattle.state.specs.Slices.{slices}
+use Rattle.state.specs.Ready.{Known, Fit}
+use Rattle.state.specs.Lent.{shown}
+use Rattle.state.proofs.Blank.{blank-zeros}
+use Rattle.state.proofs.Ready.{ready, rising}
 use Rattle.worked.specs.Worked.{state-after}
 use Rattle.worked.proofs.Certain.{known-after, onward}
 use borrow.Author.Needs.{needs}
@@ -15,59 +19,73 @@ use Rattle.worked.proofs.run.Statement.{statement}
 use Rattle.worked.proofs.run.Tie as tie
 
 abbrev Inv-loop : tie.InvT-loop
-Inv-loop nodes sheets placed₀ owners phase₀ failed₀ runs₀ order₀ place₀ taken₀ gone₀ value₀ seen₀ mark₀ claim₀ listed₀ many₀ standing₀ content₀ wct₀ i₀ placed phase failed runs order place taken gone value seen mark claim listed many standing content wct i =
-    (i ≤ 17) × Shaped (control nodes sheets placed owners phase failed runs order place taken) × Sized value seen mark claim standing content wct × (view (control nodes sheets placed owners phase failed runs order place taken) value seen mark claim standing content wct (state-after i .tally) ≡ state-after i) × Behind order standing taken gone × Listed sheets claim listed many
+Inv-loop b₀ listed₀ value₀ seen₀ w₀ i₀ b listed value seen w i = (i ≤ 17) × Fit 2 (slices b listed value seen w) × (shown 2 (slices b listed value seen w) (state-after i .tally) ≡ state-after i) × (length b ≡ length b₀) × (length listed ≡ length listed₀) × (length value ≡ length value₀) × (length seen ≡ length seen₀) × (length w ≡ length w₀)
 
 abbrev μ-loop : tie.MeasureT-loop
-μ-loop nodes sheets placed₀ owners phase₀ failed₀ runs₀ order₀ place₀ taken₀ gone₀ value₀ seen₀ mark₀ claim₀ listed₀ many₀ standing₀ content₀ wct₀ i₀ placed phase failed runs order place taken gone value seen mark claim listed many standing content wct i = 17 - i
+μ-loop b₀ listed₀ value₀ seen₀ w₀ i₀ b listed value seen w i = 17 - i
 
-array-write-owner : tie.Need-array-write-owner Inv-loop μ-loop
-array-write-owner c = search needs
+slice-aggregate-fresh : tie.Need-slice-aggregate-fresh Inv-loop μ-loop
+slice-aggregate-fresh c = search needs
+
+slice-aggregate-fresh-2 : tie.Need-slice-aggregate-fresh-2 Inv-loop μ-loop
+slice-aggregate-fresh-2 c = search needs
+
+slice-aggregate-fresh-3 : tie.Need-slice-aggregate-fresh-3 Inv-loop μ-loop
+slice-aggregate-fresh-3 c = search needs
+
+slice-aggregate-fresh-4 : tie.Need-slice-aggregate-fresh-4 Inv-loop μ-loop
+slice-aggregate-fresh-4 c = search needs
+
+slice-aggregate-fresh-5 : tie.Need-slice-aggregate-fresh-5 Inv-loop μ-loop
+slice-aggregate-fresh-5 c = search needs
+
+slice-aggregate-fresh-6 : tie.Need-slice-aggregate-fresh-6 Inv-loop μ-loop
+slice-aggregate-fresh-6 c = search needs
 
 fresh-requires : tie.Need-fresh-requires Inv-loop μ-loop
-fresh-requires c κs = search needs
+fresh-requires c κs = blank-zeros 2 (all-of (byte-sizes max-sheets)) (all-of (hint-sizes max-sheets)) (32 * max-sheets) (32 * max-sheets) (2 * max-sheets) (omega arith) (omega arith) (omega arith) (omega arith) (omega arith)
 
 loop-holds : tie.Need-loop-holds Inv-loop μ-loop
 unfolding state-after fresh
-loop-holds c =
-    let f = c .before .before .before .before .before .before .before .before .before .before .before .before .before .before .before .before .before .before .fresh .ensures in
-    (omega arith, f .1 .0 .0, f .1 .0 .1, f .0, f .1 .1 .0, f .1 .1 .1)
+loop-holds c = (omega arith, c .before .fresh .ensures .fit, c .before .fresh .ensures .shows, refl, refl, refl, refl, refl)
 
 command-requires : tie.Need-command-requires Inv-loop μ-loop
 command-requires c κs = search needs
 
+slice-aggregate-step : tie.Need-slice-aggregate-step Inv-loop μ-loop
+slice-aggregate-step c = search needs
+
+slice-aggregate-step-2 : tie.Need-slice-aggregate-step-2 Inv-loop μ-loop
+slice-aggregate-step-2 c = search needs
+
+slice-aggregate-step-3 : tie.Need-slice-aggregate-step-3 Inv-loop μ-loop
+slice-aggregate-step-3 c = search needs
+
+slice-aggregate-step-4 : tie.Need-slice-aggregate-step-4 Inv-loop μ-loop
+slice-aggregate-step-4 c = search needs
+
+slice-aggregate-step-5 : tie.Need-slice-aggregate-step-5 Inv-loop μ-loop
+slice-aggregate-step-5 c = search needs
+
 step-requires : tie.Need-step-requires Inv-loop μ-loop
-step-requires c κs =
-    let l = c .before .before .before .before .before .before .before .before .before .before .before .before .before .before .before .before .before .before .before .loop in
-    let f = c .before .before .before .before .before .before .before .before .before .before .before .before .before .before .before .before .before .before .before .before .before .before .before .before .before .before .before .before .before .before .before .before .before .before .before .before .before .before .fresh .result .control in (
-      l .inv .1,
-      l .inv .2,
-      known-any (control (f .nodes) (f .sheets) (l .placed) (f .owner) (l .phase) (l .failed) (l .runs) (l .order) (l .place) (l .taken)) (l .value) (l .seen) (l .mark) (l .claim) (l .standing) (l .content) (l .wct) (state-after (l .i) .tally) (subst Known (sym (l .inv .3)) (known-after (l .i) (c .before .before .before .before .before .before .before .before .before .before .before .before .before .before .before .before .before .before .loop-test .taken))) no-tally,
-      l .inv .4,
-      l .inv .5,
-    )
+step-requires c κs = let l = c .before .before .before .before .before .before .before .loop in
+    let k = subst Known (sym (l .inv .2)) (known-after (l .i) (c .before .before .before .before .before .before .loop-test .taken)) in
+    (ready 2 (bytes 2 (l .b)) (l .value) (l .seen) (l .w) (state-after (l .i) .tally) k (l .inv .1 .shaped), rising 2 (bytes 2 (l .b)) (l .value) (l .seen) (l .w) (state-after (l .i) .tally) k, l .inv .1)
 
 print-requires : tie.Need-print-requires Inv-loop μ-loop
 print-requires c κs = search needs
 
 add-i : tie.Need-add-i Inv-loop μ-loop
-add-i c = omega (arith, c .before .before .before .before .before .before .before .before .before .before .before .before .before .before .before .before .before .before .before .before .loop-test .taken)
+add-i c = omega (arith, c .before .before .before .before .before .before .before .before .before .before .before .before .before .loop-test .taken)
 
 loop-less : tie.Need-loop-less Inv-loop μ-loop
-loop-less c = omega (arith, c .before .before .before .before .before .before .before .before .before .before .before .before .before .before .before .before .before .before .before .before .loop-test .taken)
+loop-less c = omega (arith, c .before .before .before .before .before .before .before .before .before .before .before .before .before .loop-test .taken)
 
 loop-again : tie.Need-loop-again Inv-loop μ-loop
-loop-again c =
-    let l = c .before .before .before .before .before .before .before .before .before .before .before .before .before .before .before .before .before .before .before .before .before .loop in
-    let f = c .before .before .before .before .before .before .before .before .before .before .before .before .before .before .before .before .before .before .before .before .before .before .before .before .before .before .before .before .before .before .before .before .before .before .before .before .before .before .before .before .fresh .result .control in
-    let s = c .before .step in (
-      omega (arith, c .before .before .before .before .before .before .before .before .before .before .before .before .before .before .before .before .before .before .before .before .loop-test .taken),
-      s .ensures .1 .1,
-      s .ensures .1 .0,
-      onward (view (control (f .nodes) (f .sheets) (l .placed) (f .owner) (l .phase) (l .failed) (l .runs) (l .order) (l .place) (l .taken)) (l .value) (l .seen) (l .mark) (l .claim) (l .standing) (l .content) (l .wct)) _ (s .result .answer) (l .i) (command-of (c .before .before .before .before .before .before .before .before .before .before .before .before .before .before .before .before .before .before .before .command .result)) (λ tally. refl) (l .inv .3) (c .before .before .before .before .before .before .before .before .before .before .before .before .before .before .before .before .before .before .before .command .ensures) (s .ensures .0),
-      s .ensures .1 .2,
-      s .ensures .1 .3,
-    )
+loop-again c = let l = c .before .before .before .before .before .before .before .before .before .before .before .before .before .before .loop in
+    let s = c .before .before .before .before .before .before .step in
+    let x = slices (l .b) (l .listed) (l .value) (l .seen) (l .w) in
+    (omega (arith, c .before .before .before .before .before .before .before .before .before .before .before .before .before .loop-test .taken), s .ensures .1 x (l .inv .1), onward (shown 2 x) _ (s .result) (l .i) (command-of (c .before .before .before .before .before .before .before .before .before .before .before .before .command .result)) (λ tally. refl) (l .inv .2) (c .before .before .before .before .before .before .before .before .before .before .before .before .command .ensures) (s .ensures .0 x), search needs, search needs, search needs, search needs, search needs)
 
 returns : tie.Need-returns Inv-loop μ-loop
 returns c = search needs
@@ -78,10 +96,20 @@ run-spec =
     (tie.spec
     Inv-loop
     μ-loop
-    array-write-owner
+    slice-aggregate-fresh
+    slice-aggregate-fresh-2
+    slice-aggregate-fresh-3
+    slice-aggregate-fresh-4
+    slice-aggregate-fresh-5
+    slice-aggregate-fresh-6
     fresh-requires
     loop-holds
     command-requires
+    slice-aggregate-step
+    slice-aggregate-step-2
+    slice-aggregate-step-3
+    slice-aggregate-step-4
+    slice-aggregate-step-5
     step-requires
     print-requires
     add-i

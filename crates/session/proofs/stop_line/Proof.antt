@@ -1,9 +1,9 @@
 -- A line after a refusal only.
 use native.Mathlib.Omega.{arith}
-use Rattle.cusphewa.proofs.Laws.{no-line, stop-written, offset-small}
+use Rattle.session.proofs.Lines.{no-line, stop-written, offset-small}
 use borrow.Author.Needs.{needs}
-use Rattle.cusphewa.proofs.stop_line.Statement.{statement}
-use Rattle.cusphewa.proofs.stop_line.Tie as tie
+use Rattle.session.proofs.stop_line.Statement.{statement}
+use Rattle.session.proofs.stop_line.Tie as tie
 
 enum-told : tie.Need-enum-told
 enum-told c = search needs

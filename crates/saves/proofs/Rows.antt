@@ -1,0 +1,52 @@
+-- The turns of SUBMIT's loops, on the slices themselves.
+use Prim.Native.Nat.{ℕ, _+_, _*_, _≤_, _<_}
+use mathlib.Core.Path.{_≡_, refl, ap, _∙_}
+use mathlib.Core.List.{List}
+use native.Mathlib.Omega.{arith}
+use lib.ListN.{getD, set, length-set}
+use Rattle.state.specs.Parts.{Parts, byte-sizes, bytes, hint-sizes, hints, off, put, store, MARK, CLAIM, LISTED, MANY}
+use Rattle.state.specs.Ready.{Whole}
+use Rattle.state.proofs.Cells.{cell-in}
+use Rattle.state.proofs.Parts.{row-get, row-set, put-put, whole-put}
+use Rattle.state.proofs.Stores.{fill-on}
+use Rattle.saves.specs.Rows.{claimed-row, cleared-row, Relisted}
+use Rattle.saves.proofs.Listing.{Listing, one-of, listing-on, listing-all}
+
+module _ (m : ℕ) (b₀ b : List ℕ) (t k : ℕ) (t32 : t < 32) (km : k < m) {from : ℕ} (ef : from ≡ off (byte-sizes m) MARK + t * m) where
+  pub claim-on : {to : ℕ} → to ≡ off (byte-sizes m) CLAIM + t * m → bytes m b ≡ claimed-row m (bytes m b₀) t k → bytes m (set b (to + k) (getD b (from + k) 0)) ≡ claimed-row m (bytes m b₀) t (k + 1)
+  claim-on et e =
+      row-set (byte-sizes m) b CLAIM m t k et (cell-in m t32 km) (getD b (from + k) 0)
+      ∙ rw (row-get (byte-sizes m) b MARK m t k ef (cell-in m t32 km), e)
+      (put-put (bytes m b₀) CLAIM _ _
+      ∙ ap (put (bytes m b₀) CLAIM) (fill-on (λ j. getD (bytes m b₀ MARK) (t * m + j) 0) (t * m) k (bytes m b₀ CLAIM) _ refl))
+
+  pub clear-on : bytes m b ≡ cleared-row m (bytes m b₀) t k → bytes m (set b (from + k) 0) ≡ cleared-row m (bytes m b₀) t (k + 1)
+  clear-on e =
+      row-set (byte-sizes m) b MARK m t k ef (cell-in m t32 km) 0
+      ∙ rw e (put-put (bytes m b₀) MARK _ _ ∙ ap (put (bytes m b₀) MARK) (fill-on (λ j. 0) (t * m) k (bytes m b₀ MARK) _ refl))
+
+-- row t lists the marked ones of k sheets, c of them, and only the lists are new
+pub record Listed-to (m : ℕ) (d h : Parts) (t k c : ℕ) (l : Parts) : Type 0 where
+  pub others : l ≡ put h LISTED (l LISTED)
+  pub rows : Listing m (d MARK) (h LISTED) t k c (l LISTED)
+
+module _ {m : ℕ} {d h : Parts} (l : List ℕ) {t k c : ℕ} (to : Listed-to m d h t k c (hints m l)) (t32 : t < 32) where
+  pub listed-on : k < m → c ≤ k → {start mark : ℕ} → start ≡ off (hint-sizes m) LISTED + t * m → mark ≡ getD (d MARK) (t * m + k) 0
+      → Listed-to m d h t (k + 1) (c + one-of mark) (hints m (set l (start + c) k))
+  listed-on km ck es em =
+      let ci : c < m = omega arith in
+      let stored = row-set (hint-sizes m) l LISTED m t c es (cell-in m t32 ci) k in
+      rw (stored, em) record {
+        others = rw (to .others) (put-put h LISTED _ _);
+        rows = listing-on (to .rows) t32 km ck;
+      }
+
+  pub listed-whole : Whole (hint-sizes m) h → Whole (hint-sizes m) (hints m l)
+  listed-whole w = rw (to .others) (whole-put w LISTED (hints m l LISTED) (to .rows .size))
+
+  -- after the last sheet the row is counted
+  pub listed-all : {h′ : Parts} → h′ ≡ store (hints m l) MANY t c → Whole (hint-sizes m) h → k ≡ m → c ≤ k → Relisted m d h t h′
+  listed-all s w e ck = rw s (rw (to .others) record {
+    whole = whole-put (whole-put w LISTED (hints m l LISTED) (to .rows .size)) MANY (set (h MANY) t c) (rw length-set (w .all MANY));
+    listed = λ claim lc v. listing-all (to .rows) e (rw (w .all MANY) t32) ck lc v;
+  })

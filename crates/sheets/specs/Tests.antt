@@ -1,0 +1,29 @@
+-- What DECIDE and APPLY ask, in the rules' words where the rules' state shows it.
+use Prim.Native.Nat.{ℕ, _+_, _*_}
+use mathlib.Core.Bool.{Bool, not, _&&_, _||_}
+use lib.ListN.{getD}
+use lib.Dec.{eqb, ltb}
+use Rattle.rules.specs.Table.{all, any}
+use Rattle.rules.specs.State.{State, claims}
+use Rattle.rules.specs.Steps.{owns, has-taken, granted}
+use Rattle.rules.proofs.Places.{at}
+use Rattle.state.specs.Parts.{Parts, STANDING, ORDER, PLACE, TAKEN}
+use Rattle.state.specs.View.{set?}
+
+-- save t claims nothing at sheet k, or its node has taken it
+abbrev pub taken-at : State → (t k : ℕ) → Bool
+taken-at s t k = not (claims (s .claim t k)) || has-taken s (s .header .owner k) t
+
+abbrev pub taken-everywhere : State → (t : ℕ) → Bool
+taken-everywhere s t = all (s .header .sheets) (taken-at s t)
+
+abbrev pub granted-everywhere : State → (t : ℕ) → Bool
+granted-everywhere s t = all (s .header .sheets) (granted s t)
+
+-- save t claims a sheet of node n
+abbrev pub claims-at : State → (n t : ℕ) → Bool
+claims-at s n t = any (s .header .sheets) (λ k. owns s n k && claims (s .claim t k))
+
+-- save t has its place among those that node n has taken, and stands there: its entries at the node are then at all sheets that it claims
+abbrev pub stands-at : Parts → (n t : ℕ) → Bool
+stands-at d n t = set? (getD (d STANDING) (n * 32 + t) 0) && (ltb (getD (d PLACE) t 0) (getD (d TAKEN) n 0) && eqb (at (d ORDER) (getD (d PLACE) t 0)) t)
