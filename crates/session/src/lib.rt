@@ -2,6 +2,7 @@
 ghost use mathlib.Core.Path.{_≡_};
 ghost use Prim.Native.Nat.{_+_, _*_, _≤_};
 ghost use lib.ListN.{length};
+ghost use Rattle.rules.specs.Sizes.{max-session, min-buffer};
 ghost use Rattle.rules.specs.Report as rules;
 ghost use Rattle.text.specs.Wrote.{Wrote};
 ghost use Rattle.state.specs.Parts.{bytes};
@@ -107,7 +108,7 @@ fn closed(size: usize, last: Reply, stop: Stop) -> Ended
 
 // R p c, after a refusal only.
 fn stop_line(buf: &mut [u8], at: usize, stop: Stop) -> usize
-    requires { ⌜ (at + 24 ≤ length (now buf)) × Within 16384 stop ⌝ }
+    requires { ⌜ (at + 24 ≤ length (now buf)) × Within max-session stop ⌝ }
     ensures { λ r. ⌜ Wrote (now (buf .entry)) at (rules.stop-line (stop-of stop)) 24 r (now (buf .exit)) ⌝ }
 {
     match stop {
@@ -116,9 +117,10 @@ fn stop_line(buf: &mut [u8], at: usize, stop: Stop) -> usize
     }
 }
 
-// The report of a walk: the state's lines, then the stop's. A buffer that is too short for any report is left alone.
+// The report of a walk: the state's lines, of at most 867 + 35 * m bytes, then the stop's, of at most 24. A buffer that is too short for a
+// report is left alone.
 fn report_lines(report: &mut [u8], b: &[u8], w: &[u32], m: usize, r: Walked) -> usize
-    requires { ⌜ Ready m (bytes m (now b)) × Table 2 m (now w) × (891 + 35 * m ≤ 4096) × Within 16384 (r .stop) ⌝ }
+    requires { ⌜ Ready m (bytes m (now b)) × Table 2 m (now w) × (891 + 35 * m ≤ min-buffer) × Within max-session (r .stop) ⌝ }
     ensures { λ z. ⌜ record { size = z; buffer = now (report .exit) } ≡ filled (lines-of m (now (b .entry)) (now (w .entry)) r) (now (report .entry)) ⌝ }
     ensures fits { λ z. ⌜ z ≤ length (now (report .entry)) ⌝ }
 {

@@ -38,7 +38,7 @@ pub fn finds_invalid(
     n: u8,
     t: u8,
 ) -> bool
-    requires { ⌜ Ready m (bytes m (now b)) × Hints m (bytes m (now b)) (hints m (now listed)) × Table 32 m (now seen) × Table 2 m (now w) × (n < 8) × (t < 32) ⌝ }
+    requires { ⌜ Ready m (bytes m (now b)) × Hints m (bytes m (now b)) (hints m (now listed)) × Table 32 m (now seen) × Table 2 m (now w) × (t < 32) ⌝ }
     ensures { λ r. ⌜ r ≡ finds-invalid (seen-by m (taking (now (b .entry)) (now (seen .entry)) (now (w .entry)))) n t ⌝ }
 {
     let ti = t as usize;

@@ -69,7 +69,7 @@ finds-invalid-requires : tie.Need-finds-invalid-requires
 finds-invalid-requires c κs = let s = c .before .before .before .before .before .before .before .before .before .before .before .before .before .before .before .before .before .before in
     let ln = rw (c .before .before .before .before .before .before .before .before .before .before .before .before .nodes .ensures) at (c .before .before .before .before .before .before .before .before .before .before .before .if1 .left) in
     let h = rw (c .before .before .before .before .before .before .before .placed .ensures) at (c .before .before .before .before .before .before .if2 .left) in
-    (s .pre .0, s .pre .1, s .pre .2, s .pre .3, node8 (s .pre .0) (s .args .n) ln, save32 (s .pre .0) (s .args .n) ln (c .before .before .before .before .before .before .before .before .before .taken .ensures) h (c .before .before .before .before .order .ensures))
+    (s .pre .0, s .pre .1, s .pre .2, s .pre .3, save32 (s .pre .0) (s .args .n) ln (c .before .before .before .before .before .before .before .before .before .taken .ensures) h (c .before .before .before .before .order .ensures))
 
 cast-ti : tie.Need-cast-ti
 cast-ti c = search needs

@@ -27,7 +27,7 @@ loop-holds : tie.Need-loop-holds Inv-loop μ-loop
 loop-holds c =
     let s = c .before .before .before .before .before in
     let a = s .args in
-    left-all true _ (a .t) (s .pre .0) (s .pre .1) (s .pre .5) (λ k e. rw (unclaimed (a .m) (bytes (a .m) (a .b .now) CLAIM) (a .t) k e, and-false)) (c .many .ensures)
+    left-all true _ (a .t) (s .pre .0) (s .pre .1) (s .pre .4) (λ k e. rw (unclaimed (a .m) (bytes (a .m) (a .b .now) CLAIM) (a .t) k e, and-false)) (c .many .ensures)
 
 sub-i : tie.Need-sub-i Inv-loop μ-loop
 sub-i c = search needs
