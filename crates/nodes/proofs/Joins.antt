@@ -49,8 +49,8 @@ here m owner claim n t f k o c =
     (λ l. clash (claims (claim-in m claim t k)) c (rw (flat-past m claim t k l)))
 
 -- node n has taken save t, which stands there
-abbrev pub entering : Parts → (n t : ℕ) → Parts
-entering d n t = moving-on (store d STANDING (n * 32 + t) 1) n
+abbrev pub taken-in : Parts → (n t : ℕ) → Parts
+taken-in d n t = moving-on (store d STANDING (n * 32 + t) 1) n
 
 module _ {m : ℕ} {d : Parts} (ready : Ready m d) (n : ℕ) (ln : n < nodes d) where
   abbrev p : ℕ
@@ -149,16 +149,16 @@ module _ {m : ℕ} {d : Parts} (ready : Ready m d) (n : ℕ) (ln : n < nodes d) 
     set-here = let s = next32 in let l = node8 in rw (getD-set-same (d STANDING) (n * 32 + t) 1 0 (rw (ready .shaped .whole .all STANDING) (omega arith)))
 
     module _ {f : Bool} (value seen w : List ℕ) (e : f ≡ finds-invalid (view m d [] seen w no-tally) n t) where
-      take-entering : (failed′ : List ℕ) (v : Verdict) → verdict-of v ≡ rules.verdict f
+      take-in : (failed′ : List ℕ) (v : Verdict) → verdict-of v ≡ rules.verdict f
           → _≡_ {A = ℕ → Bool} (λ j. set? (getD failed′ j 0)) (upd (λ j. set? (getD (d FAILED) j 0)) t (set? (getD (d FAILED) t 0) || f))
-          → Steps (view m d value seen w) (Take n) (view m (put (entering d n t) FAILED failed′) value seen w) (Took t v)
-      take-entering failed′ v ev em = take-steps standing′ (λ j z. getD-set-other (d STANDING) (n * 32 + t) j 1 0 z) (λ k o c. set-here) value seen w failed′ f v e ev em
+          → Steps (view m d value seen w) (Take n) (view m (put (taken-in d n t) FAILED failed′) value seen w) (Took t v)
+      take-in failed′ v ev em = take-steps standing′ (λ j z. getD-set-other (d STANDING) (n * 32 + t) j 1 0 z) (λ k o c. set-here) value seen w failed′ f v e ev em
 
-      take-invalid : f ≡ true → Steps (view m d value seen w) (Take n) (view m (store (entering d n t) FAILED t 1) value seen w) (Took t Invalid)
-      take-invalid y = take-entering (set (d FAILED) t 1) Invalid (rw y) (rw y (failed-set (d FAILED) t (rw (ready .shaped .whole .all FAILED) next32)))
+      take-invalid : f ≡ true → Steps (view m d value seen w) (Take n) (view m (store (taken-in d n t) FAILED t 1) value seen w) (Took t Invalid)
+      take-invalid y = take-in (set (d FAILED) t 1) Invalid (rw y) (rw y (failed-set (d FAILED) t (rw (ready .shaped .whole .all FAILED) next32)))
 
-      take-valid : f ≡ false → Steps (view m d value seen w) (Take n) (view m (entering d n t) value seen w) (Took t Valid)
-      take-valid y = take-entering (d FAILED) Valid (rw y) (rw y (failed-keep (d FAILED) t))
+      take-valid : f ≡ false → Steps (view m d value seen w) (Take n) (view m (taken-in d n t) value seen w) (Took t Valid)
+      take-valid y = take-in (d FAILED) Valid (rw y) (rw y (failed-keep (d FAILED) t))
 
 -- what the code reads, and what its changes come to
 module _ {m : ℕ} {d : Parts} (ready : Ready m d) (n : ℕ) (ln : n < nodes d) {p : ℕ} (ep : p ≡ getD (d TAKEN) n 0) where
@@ -207,38 +207,38 @@ module _ {m : ℕ} {d : Parts} (ready : Ready m d) (n : ℕ) (ln : n < nodes d) 
           (take-none ready n ln h′ (rw is-next at (sym ec ∙ none)) value seen w)
 
       module _ {f : Bool} (seen w : List ℕ) (ef : f ≡ finds-invalid (view m d [] seen w no-tally) n t) (value : List ℕ) where
-        pub moves-invalid : f ≡ true → Steps (view m d value seen w) (Take n) (view m (store (entering d n t) FAILED t 1) value seen w) (Took t Invalid)
+        pub moves-invalid : f ≡ true → Steps (view m d value seen w) (Take n) (view m (store (taken-in d n t) FAILED t 1) value seen w) (Took t Invalid)
         moves-invalid y =
-            subst (λ (u : ℕ). Steps (view m d value seen w) (Take n) (view m (store (entering d n u) FAILED u 1) value seen w) (Took u Invalid)) (sym is-next)
+            subst (λ (u : ℕ). Steps (view m d value seen w) (Take n) (view m (store (taken-in d n u) FAILED u 1) value seen w) (Took u Invalid)) (sym is-next)
             (take-invalid ready n ln h′ value seen w (rw is-next at ef) y)
 
-        pub moves-valid : f ≡ false → Steps (view m d value seen w) (Take n) (view m (entering d n t) value seen w) (Took t Valid)
+        pub moves-valid : f ≡ false → Steps (view m d value seen w) (Take n) (view m (taken-in d n t) value seen w) (Took t Valid)
         moves-valid y =
-            subst (λ (u : ℕ). Steps (view m d value seen w) (Take n) (view m (entering d n u) value seen w) (Took u Valid)) (sym is-next)
+            subst (λ (u : ℕ). Steps (view m d value seen w) (Take n) (view m (taken-in d n u) value seen w) (Took u Valid)) (sym is-next)
             (take-valid ready n ln h′ value seen w (rw is-next at ef) y)
 
-      entering-whole : Whole (byte-sizes m) (entering d n t)
-      entering-whole = whole-store (whole-store (ready .shaped .whole) STANDING (n * 32 + t) 1) TAKEN n (getD (d TAKEN) n 0 + 1)
+      taken-in-whole : Whole (byte-sizes m) (taken-in d n t)
+      taken-in-whole = whole-store (whole-store (ready .shaped .whole) STANDING (n * 32 + t) 1) TAKEN n (getD (d TAKEN) n 0 + 1)
 
-      entering-trimmed : Trimmed d → Trimmed (entering d n t)
-      entering-trimmed k =
+      taken-in-trimmed : Trimmed d → Trimmed (taken-in d n t)
+      taken-in-trimmed k =
           rw is-next (behind-taken k (λ u. getD (d PLACE) u 0) (placed d) n 1 (ready .once) (ready .small) (ready .takens) h′ (rw (ready .shaped .whole .all TAKEN) (node8 ready n ln)))
 
-      pub holds-valid : Holds m d (entering d n t)
+      pub holds-valid : Holds m d (taken-in d n t)
       holds-valid = record {
-        shaped = record { whole = entering-whole; fits = ready .shaped .fits };
-        hints = λ h k. record { whole = k .whole; behind = entering-trimmed (k .behind); listed = k .listed };
+        shaped = record { whole = taken-in-whole; fits = ready .shaped .fits };
+        hints = λ h k. record { whole = k .whole; behind = taken-in-trimmed (k .behind); listed = k .listed };
       }
 
-      pub holds-invalid : Holds m d (store (entering d n t) FAILED t 1)
+      pub holds-invalid : Holds m d (store (taken-in d n t) FAILED t 1)
       holds-invalid = record {
-        shaped = record { whole = whole-store entering-whole FAILED t 1; fits = ready .shaped .fits };
-        hints = λ h k. record { whole = k .whole; behind = entering-trimmed (k .behind); listed = k .listed };
+        shaped = record { whole = whole-store taken-in-whole FAILED t 1; fits = ready .shaped .fits };
+        hints = λ h k. record { whole = k .whole; behind = taken-in-trimmed (k .behind); listed = k .listed };
       }
 
       module _ {d₁ d₂ : Parts} (e₁ : d₁ ≡ store d STANDING (n * 32 + t) 1) (e₂ : d₂ ≡ moving-on d₁ n) where
-        pub entered-stored : d₂ ≡ entering d n t
+        pub entered-stored : d₂ ≡ taken-in d n t
         entered-stored = e₂ ∙ ap (λ (x : Parts). moving-on x n) e₁
 
-        pub failed-stored : {d₃ : Parts} → d₃ ≡ store d₂ FAILED t 1 → d₃ ≡ store (entering d n t) FAILED t 1
+        pub failed-stored : {d₃ : Parts} → d₃ ≡ store d₂ FAILED t 1 → d₃ ≡ store (taken-in d n t) FAILED t 1
         failed-stored e₃ = e₃ ∙ ap (λ (x : Parts). store x FAILED t 1) entered-stored
