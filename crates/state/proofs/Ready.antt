@@ -1,4 +1,4 @@
--- What is known of the rules' state holds of the arrays that show it.
+-- What is known of the rules' state holds of the regions that show it.
 use Prim.Native.Nat.{ℕ, _≤_, _<_}
 use mathlib.Core.Path.{_≡_, sym, _∙_}
 use mathlib.Core.Bool.{true, true≢false}
