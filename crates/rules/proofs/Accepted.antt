@@ -16,7 +16,7 @@ use Rattle.rules.specs.Steps.{mem, owns, tests, check, Checked, pass, re
 use Rattle.rules.specs.Serial.{feed, says-again, History, no-history, commit, join, hear, heard, reads-after, first-reads}
 use Rattle.rules.specs.Demand3.{events, after, told, first-answers}
 use Rattle.rules.proofs.Table.{bool, and-l, and-r, any-at}
-use Rattle.rules.proofs.Tests.{passed}
+use Rattle.rules.proofs.Tests.{passed-asked}
 use Rattle.rules.proofs.Places.{entries, fold, entries-out}
 use Rattle.rules.proofs.Invariant.{RunsOf, Stands, live, storing, stores, Inv}
 use Rattle.rules.proofs.Phases.{unused-is, submitted-is}
@@ -43,11 +43,11 @@ entry-of s l r t k v m f =
 
 pub keeps : (s : State) (l : History) (r : ℕ → ℕ → Option ℕ) (c : Command) → Inv s l r → check s c ≡ pass
     → Inv (effect s c) (hear l c (says-again (answer s c))) (reads-after r c (answer s c))
-keeps s l r (Begin t) v e = let g = passed (tests s (Begin t)) e in keeps-begin s l r t v (ltb-true t max-saves (g .0)) (unused-is (s .phase t) (g .1 .0))
+keeps s l r (Begin t) v e = let g = passed-asked (tests s (Begin t)) e in keeps-begin s l r t v (ltb-true t max-saves (g 4 .0)) (unused-is (s .phase t) (g 5 .0))
 keeps s l r (Read t k) v e =
-    let g = passed (tests s (Read t k)) e in keeps-read s l r t k v (ltb-true k (s .header .sheets) (g .1 .0)) (g .1 .1 .0) (g .1 .1 .1 .0)
-keeps s l r (Write t k x) v e = let g = passed (tests s (Write t k x)) e in keeps-write s l r t k x v (g .1 .1 .0) (g .1 .1 .1 .0) (g .1 .1 .1 .1 .0)
-keeps s l r (Submit t) v e = let g = passed (tests s (Submit t)) e in go (ltb-true t max-saves (g .0)) (s .phase t) refl (g .1 .0) (v .linked .runs-right t)
+    let g = passed-asked (tests s (Read t k)) e in keeps-read s l r t k v (ltb-true k (s .header .sheets) (g 4 .1 .0)) (g 5 .0) (g 8 .0)
+keeps s l r (Write t k x) v e = let g = passed-asked (tests s (Write t k x)) e in keeps-write s l r t k x v (g 5 .0) (g 8 .0) (g 7 .0)
+keeps s l r (Submit t) v e = let g = passed-asked (tests s (Submit t)) e in go (ltb-true t max-saves (g 4 .0)) (s .phase t) refl (g 5 .0) (v .linked .runs-right t)
   where
     runs-are : l .runs t ≡ s .runs t
     runs-are = ap (λ f. f t) (v .linked .runs-same)
@@ -61,22 +61,22 @@ keeps s l r (Submit t) v e = let g = passed (tests s (Submit t)) e in go (ltb-tr
     go ht committed q y a = absurd (true≢false (sym y))
     go ht dropped q y a = absurd (true≢false (sym y))
 keeps s l r (Take n) v e =
-    let g = passed (tests s (Take n)) e in
-    let h = ltb-true (s .taken n) (length (s .order)) (g .1 .0) in
+    let g = passed-asked (tests s (Take n)) e in
+    let h = ltb-true (s .taken n) (length (s .order)) (g 9 .0) in
     keeps-take s l r n v h (v .places .only (s .taken n) h)
 keeps s l r (Decide t) v e =
-    let g = passed (tests s (Decide t)) e in
-    let ht = ltb-true t max-saves (g .0) in
-    let u = submitted-is (s .phase t) (g .1 .0) in
+    let g = passed-asked (tests s (Decide t)) e in
+    let ht = ltb-true t max-saves (g 4 .0) in
+    let u = submitted-is (s .phase t) (g 5 .0) in
     bool (s .failed t)
-    (λ f. rw f (keeps-decide-second s l r t v ht u (g .1 .1 .0) (g .1 .1 .1 .0)))
-    (λ f. rw f (keeps-decide-commit s l r t v ht u (g .1 .1 .0) (g .1 .1 .1 .0) f))
+    (λ f. rw f (keeps-decide-second s l r t v ht u (g 10 .0) (g 10 .1 .0)))
+    (λ f. rw f (keeps-decide-commit s l r t v ht u (g 10 .0) (g 10 .1 .0) f))
 keeps s l r (Apply n t) v e =
-    let g = passed (tests s (Apply n t)) e in
-    any-at (s .header .sheets) (λ k. owns s n k && mem t (s .queue k)) (g .1 .1 .1 .0)
+    let g = passed-asked (tests s (Apply n t)) e in
+    any-at (s .header .sheets) (λ k. owns s n k && mem t (s .queue k)) (g 11 .0)
     (λ k h y. let z = eqb-true (s .header .owner k) n (and-l (owns s n k) (mem t (s .queue k)) y) in
-    entry-of s l r t k v (and-r (owns s n k) (mem t (s .queue k)) y) (λ st o _ f. keeps-apply s l r n t v (g .1 .1 .0) st (rw z at o) (rw z at f)))
-keeps s l r (GiveUp t) v e = let g = passed (tests s (GiveUp t)) e in keeps-give-up s l r t v (ltb-true t max-saves (g .0)) (g .1 .0)
+    entry-of s l r t k v (and-r (owns s n k) (mem t (s .queue k)) y) (λ st o _ f. keeps-apply s l r n t v (g 5 .0) st (rw z at o) (rw z at f)))
+keeps s l r (GiveUp t) v e = let g = passed-asked (tests s (GiveUp t)) e in keeps-give-up s l r t v (ltb-true t max-saves (g 4 .0)) (g 5 .0)
 
 -- ---- New nodes
 

@@ -17,7 +17,7 @@ use Rattle.rules.specs.Steps.{mem, owns, tests, check, Checked, pass, re
 use Rattle.rules.specs.Serial.{History, says-again, hear, reads-after}
 use Rattle.rules.specs.Demand3.{of-four-kinds, FourKinds, accepted-of}
 use Rattle.rules.proofs.Table.{bool, upd-same, upd-other, upd2-at, upd2-same, and-i, and-l, and-r, any-at, sum, sum-le, sum-falls, sum-bound, sum-times}
-use Rattle.rules.proofs.Tests.{passed}
+use Rattle.rules.proofs.Tests.{passed-asked}
 use Rattle.rules.proofs.Places.{at}
 use Rattle.rules.proofs.Invariant.{Stands, Inv}
 use Rattle.rules.proofs.Phases.{submitted-is, second-is}
@@ -166,30 +166,30 @@ falls s l r (Read t x) v k e = absurd (true≢false (sym k))
 falls s l r (Write t x y) v k e = absurd (true≢false (sym k))
 falls s l r (GiveUp t) v k e = absurd (true≢false (sym k))
 falls s l r (Submit t) v k e =
-    let g = passed (tests s (Submit t)) e in
-    let ht = ltb-true t max-saves (g .0) in
+    let g = passed-asked (tests s (Submit t)) e in
+    let ht = ltb-true t max-saves (g 4 .0) in
     let q = second-is (s .phase t) k in
     let st = v .places .stands t (rw q) in
     let a : l .runs t ≡ 2 = ap (λ f. f t) (v .linked .runs-same) ∙ (rw q at (v .linked .runs-right t)) in
     rw (q, a) (omega (arith, phase-falls s l t committed (s .mark) (s .runs) (s .tally) ht st (rw q (omega arith))))
 falls s l r (Take n) v k e =
-    let g = passed (tests s (Take n)) e in
-    let f = takes-fall s n (ltb-true n (s .header .nodes) (g .0)) (ltb-true (s .taken n) (length (s .order)) (g .1 .0)) in
+    let g = passed-asked (tests s (Take n)) e in
+    let f = takes-fall s n (ltb-true n (s .header .nodes) (g 4 .0)) (ltb-true (s .taken n) (length (s .order)) (g 9 .0)) in
     omega arith
 falls s l r (Decide t) v k e =
-    let g = passed (tests s (Decide t)) e in
-    let q = submitted-is (s .phase t) (g .1 .0) in
-    let ht = ltb-true t max-saves (g .0) in
+    let g = passed-asked (tests s (Decide t)) e in
+    let q = submitted-is (s .phase t) (g 5 .0) in
+    let ht = ltb-true t max-saves (g 4 .0) in
     let st = v .places .stands t (rw q) in
     bool (s .failed t)
     (λ f. rw f (omega (arith, phase-falls s l t second (s .mark) (s .runs) (s .tally) ht st (rw q (omega arith)))))
     (λ f. rw f (omega (arith, phase-falls s l t committed (s .mark) (s .runs) (s .tally) ht st (rw q (omega arith)))))
 falls s l r (Apply n t) v k e =
-    let g = passed (tests s (Apply n t)) e in
-    any-at (s .header .sheets) (λ k. owns s n k && mem t (s .queue k)) (g .1 .1 .1 .0)
+    let g = passed-asked (tests s (Apply n t)) e in
+    any-at (s .header .sheets) (λ k. owns s n k && mem t (s .queue k)) (g 11 .0)
     (λ k h y. let z = eqb-true (s .header .owner k) n (and-l (owns s n k) (mem t (s .queue k)) y) in
     entry-of s l r t k v (and-r (owns s n k) (mem t (s .queue k)) y)
-    (λ st o _ f. omega (arith, apply-falls s l n t (ltb-true t max-saves (g .1 .0)) (ltb-true n (s .header .nodes) (g .0)) st (rw z at f))))
+    (λ st o _ f. omega (arith, apply-falls s l n t (ltb-true t max-saves (g 4 .1 .0)) (ltb-true n (s .header .nodes) (g 4 .0)) st (rw z at f))))
 
 -- ---- The count
 
