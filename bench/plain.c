@@ -1,4 +1,4 @@
-/* A plain implementation of document 01 in C: arrays, no allocation, written for speed.
+/* A plain implementation of document 01, with the requests of document 02, in C: arrays, no allocation, written for speed.
  *
  * Sets of sheets are 64-bit masks. Every node takes the saves in the one order, so the entries of
  * a queue always stand in that order: a queue is a mask of places, with a second mask that says
@@ -74,6 +74,12 @@ static inline struct end refuse(const uint8_t *session, const uint8_t *at, uint3
     return end;
 }
 
+/* What the save is refused with by a command that its phase does not allow. */
+static inline uint32_t out_of_phase(const struct save *t)
+{
+    return t->phase == UNUSED ? 13 : t->phase == COMMITTED || t->phase == DROPPED ? 14 : 5;
+}
+
 static inline struct end run(struct state *s, const uint8_t *session, size_t length)
 {
     if (!start(s, session, length))
@@ -94,7 +100,7 @@ static inline struct end run(struct state *s, const uint8_t *session, size_t len
                 REFUSE(4);
             struct save *t = &s->save[at[1]];
             if (t->phase != UNUSED)
-                REFUSE(5);
+                REFUSE(out_of_phase(t));
             t->copied = t->written = t->claim = t->claim_x = t->held = 0;
             t->failed = 0;
             t->phase = FIRST_RUN;
@@ -108,7 +114,7 @@ static inline struct end run(struct state *s, const uint8_t *session, size_t len
                 REFUSE(4);
             struct save *t = &s->save[number_t];
             if (t->phase != FIRST_RUN && t->phase != SECOND_RUN)
-                REFUSE(5);
+                REFUSE(out_of_phase(t));
             uint64_t bit = (uint64_t)1 << k;
             if (!(t->copied & bit)) {
                 if (t->phase == SECOND_RUN) {
@@ -131,7 +137,7 @@ static inline struct end run(struct state *s, const uint8_t *session, size_t len
                 REFUSE(4);
             struct save *t = &s->save[number_t];
             if (t->phase != FIRST_RUN && t->phase != SECOND_RUN)
-                REFUSE(5);
+                REFUSE(out_of_phase(t));
             uint64_t bit = (uint64_t)1 << k;
             if (t->phase == SECOND_RUN && !(t->claim_x & bit))
                 REFUSE(8);
@@ -158,7 +164,7 @@ static inline struct end run(struct state *s, const uint8_t *session, size_t len
                 t->phase = COMMITTED;
                 s->second_commits++;
             } else {
-                REFUSE(5);
+                REFUSE(out_of_phase(t));
             }
             kind = ACCEPTED, value = 0;
             break;
@@ -194,7 +200,7 @@ static inline struct end run(struct state *s, const uint8_t *session, size_t len
                 REFUSE(4);
             struct save *t = &s->save[at[1]];
             if (t->phase != SUBMITTED)
-                REFUSE(5);
+                REFUSE(out_of_phase(t));
             if (t->held != t->claim)
                 REFUSE(10);
             uint32_t before = ((uint32_t)1 << t->place) - 1, waits = 0;
@@ -223,7 +229,7 @@ static inline struct end run(struct state *s, const uint8_t *session, size_t len
                 REFUSE(4);
             struct save *t = &s->save[number_t];
             if (t->phase != COMMITTED && t->phase != DROPPED)
-                REFUSE(5);
+                REFUSE(out_of_phase(t));
             /* A save dropped in its first run holds nothing, so the mask answers for it too. */
             uint64_t ours = t->held & s->owned[n];
             if (!ours)
@@ -250,7 +256,7 @@ static inline struct end run(struct state *s, const uint8_t *session, size_t len
                 REFUSE(4);
             struct save *t = &s->save[at[1]];
             if (t->phase != FIRST_RUN && t->phase != SECOND_RUN)
-                REFUSE(5);
+                REFUSE(out_of_phase(t));
             t->phase = DROPPED;
             kind = ACCEPTED, value = 0;
             break;

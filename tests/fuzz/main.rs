@@ -6,16 +6,18 @@
 //! `--prefixes` compares the answer after every command of every session, not of a share only;
 //! `--lengths` adds every length from 0 to 16,386 bytes; `--states` adds every command in every
 //! state that small sessions reach. The end status is 1 on a difference, on a
-//! broken demand, and where a run of 1,000 sessions or more has left out a refusal.
+//! broken demand, and where a run of 1,000 sessions or more has left out a refusal, or one of
+//! 20,000 or more a command in some phase of its save.
 
 use model::command::{Header, MOST_BYTES};
 use model::demand3::{self, Met};
-use model::engine::Answer;
+use model::engine::{Answer, Phase};
 use model::generate::{self, Input};
 use model::prng::Prng;
 use model::report::{write_report, LEAST_BUFFER};
-use model::session::{coded_answer, Session};
+use model::session::{coded_answer, Cell, Session};
 use model::states;
+use std::collections::BTreeMap;
 use std::process::exit;
 
 mod engine {
@@ -54,6 +56,14 @@ const GUARD: usize = 64;
 const ALL_PREFIXES: usize = 300;
 const SAMPLE: usize = 40;
 
+/// The seven commands that are on a save, by its phases.
+const CELLS: usize = 7 * Phase::ALL.len();
+
+/// From so many sessions on, a refusal or a kind of commit that never occurred is a failure; from so
+/// many, a command that never came in some phase of its save.
+const ALL_REFUSALS: u64 = 1_000;
+const ALL_CELLS: u64 = 20_000;
+
 #[derive(Default)]
 struct Counts {
     sessions: u64,
@@ -61,7 +71,8 @@ struct Counts {
     accepted: u64,
     first_commits: u64,
     second_commits: u64,
-    refusals: [u64; 13],
+    refusals: [u64; 15],
+    cells: BTreeMap<Cell, u64>,
     takes_valid: u64,
     takes_invalid: u64,
     second_runs: u64,
@@ -109,8 +120,7 @@ fn main() {
             }
         }
     }
-    let missing = close(&counts);
-    if arguments.sessions >= 1_000 && missing {
+    if close(&counts) {
         exit(1);
     }
 }
@@ -306,6 +316,10 @@ fn count(session: &[u8], run: &Session, buffer: &[u8], met: Met, counts: &mut Co
     if buffer.len() < LEAST_BUFFER {
         counts.refusals[12] += 1;
     }
+    let refused = run.refused.and_then(|refused| refused.cell);
+    for cell in run.steps.iter().filter_map(|step| step.cell).chain(refused) {
+        *counts.cells.entry(cell).or_default() += 1;
+    }
     for step in &run.steps {
         match step.answer {
             Answer::Taken { valid: true, .. } => counts.takes_valid += 1,
@@ -319,19 +333,20 @@ fn count(session: &[u8], run: &Session, buffer: &[u8], met: Met, counts: &mut Co
         counts.first_commits += engine.tally.first_run_commits as u64;
         counts.second_commits += engine.tally.second_run_commits as u64;
         counts.all_saves += (engine.order.len() == 32) as u64;
-        let dropped = |&&save: &&usize| engine.saves[save].phase == model::engine::Phase::Dropped;
+        let dropped = |&&save: &&usize| engine.saves[save].phase == Phase::Dropped;
         counts.second_run_drops += engine.order.iter().filter(dropped).count() as u64;
         let longest = engine.sheets.iter().map(|sheet| sheet.queue.len()).max().unwrap_or(0);
         counts.longest_queue = counts.longest_queue.max(longest);
     }
 }
 
-/// Prints the counts; says whether something never occurred.
+/// Prints the counts; says whether something never occurred that so many sessions have.
 fn close(counts: &Counts) -> bool {
     println!(
         "met: {} prefixes, {} reads and {} stores against the serial run, {} states with entries, \
          {} tail steps (nearest to the bound: {}), TAKE valid {} invalid {}, second runs {} \
-         (given up {}), longest queue left {}, {} sessions of 16384 bytes, {} with 32 places",
+         (given up {}), longest queue left {}, {} sessions of 16384 bytes, {} with 32 places, \
+         {} of {CELLS} commands by phase (the rarest {} times)",
         counts.prefixes,
         counts.met.reads,
         counts.met.stores,
@@ -345,9 +360,11 @@ fn close(counts: &Counts) -> bool {
         counts.longest_queue,
         counts.full_length,
         counts.all_saves,
+        counts.cells.len(),
+        counts.cells.values().min().unwrap_or(&0),
     );
     let refusals: Vec<String> =
-        (1..=12).map(|number| format!("{number}:{}", counts.refusals[number])).collect();
+        (1..=14).map(|number| format!("{number}:{}", counts.refusals[number])).collect();
     println!(
         "{} sessions, {} accepted commands, commits {} first run {} second run, refusals {}",
         counts.sessions,
@@ -356,7 +373,11 @@ fn close(counts: &Counts) -> bool {
         counts.second_commits,
         refusals.join(" ")
     );
-    counts.refusals[1..].contains(&0) || counts.first_commits == 0 || counts.second_commits == 0
+    let refusal_left_out = counts.refusals[1..].contains(&0);
+    let commit_left_out = counts.first_commits == 0 || counts.second_commits == 0;
+    let cell_left_out = counts.cells.len() < CELLS;
+    counts.sessions >= ALL_REFUSALS && (refusal_left_out || commit_left_out)
+        || counts.sessions >= ALL_CELLS && cell_left_out
 }
 
 fn difference(session: &[u8], what: &str, model: &str, engine: &str) -> String {

@@ -9,17 +9,18 @@ use lib.ListN.{length, getD, set}
 use lib.Dec.{eqb, ltb, leb}
 use borrow.Author.Tests.{ltb-true, le-leb, ne-eqb}
 use Rattle.rules.specs.Bytes.{Read, Write}
-use Rattle.rules.specs.State.{Sheet, Mark, absent, copied, written, Claim, Tally, State, is-first, running, has-copy, claims, is-x}
+use Rattle.rules.specs.State.{Sheet, Mark, absent, copied, written, Claim, Tally, State, is-unused, is-first, running, over, has-copy, claims, is-x}
 use Rattle.rules.specs.Steps.{at-front, x-on, Checked, pass, refuse, check, read-mark, read-copy}
 use Rattle.state.specs.declared.Answer.the-variants.{Content, Accepted, Refused}
 use Rattle.state.specs.Parts.{Parts, store, CONTENT, WCT, MARK, CLAIM, STANDING, OWNER, PHASE, ORDER, PLACE, TAKEN}
-use Rattle.state.specs.View.{as-phase, as-mark, as-claim, set?, flat, claim-in, queue-in, view}
+use Rattle.state.specs.View.{as-phase, out-of-phase, as-mark, as-claim, set?, flat, claim-in, queue-in, view}
 use Rattle.state.specs.Ready.{Table}
 use Rattle.state.specs.Lent.{Steps}
 use Rattle.rules.proofs.Table.{bool}
 use Rattle.state.proofs.Tables.{upd2-by}
 use Rattle.state.proofs.Cells.{cell-in}
 use Rattle.state.proofs.Codes.{first-code, second-code, has-copy-code}
+use Rattle.state.proofs.OutOfPhase.{out-refuses, running-tests}
 use Rattle.state.proofs.Stores.{flat-in, flat-same, flat-other}
 use Rattle.state.proofs.Steps.{refused, accepted, same-state}
 use Rattle.copies.specs.Barred.{barred-by}
@@ -64,20 +65,22 @@ module _ (m : ℕ) (d : Parts) (value seen w : List ℕ) (t k least : ℕ) {r : 
 
   -- the rules' tests that are READ's and WRITE's, of which the last asks f of the claim, and what is asked after them
   by-number : (f : Claim → Bool) → ((c : ℕ) → f (as-claim c) ≡ leb least c) → (rest : Checked)
-      → cond (ltb t 32) (cond (ltb k m) (cond (running (as-phase p)) (cond (is-first (as-phase p) || f (claim-in m (d CLAIM) t k)) rest (refuse 8)) (refuse 5)) (refuse 4)) (refuse 4)
+      → cond (ltb t 32) (cond (ltb k m) (cond (not (is-unused (as-phase p))) (cond (not (over (as-phase p)))
+      (cond (running (as-phase p)) (cond (is-first (as-phase p) || f (claim-in m (d CLAIM) t k)) rest (refuse 8)) (refuse 5)) (refuse 14)) (refuse 13)) (refuse 4)) (refuse 4)
       ≡ cond (eqb r 0) rest (refuse r)
   unfolding barred-by
   by-number f code rest =
-      rw (e, first-code p, second-code p, code (flat m (d CLAIM) t k)) (by-cases (ltb t 32) (ltb k m) (eqb p 1 || eqb p 3) (eqb p 1 || leb least (flat m (d CLAIM) t k)))
+      rw (e, running-tests (cond (is-first (as-phase p) || f (claim-in m (d CLAIM) t k)) rest (refuse 8)) p, first-code p, code (flat m (d CLAIM) t k))
+      (by-cases (ltb t 32) (ltb k m) (eqb p 1 || eqb p 3) (eqb p 1 || leb least (flat m (d CLAIM) t k)) (out-of-phase p) (out-refuses p))
     where
-      by-cases : (a b c d : Bool)
-          → cond a (cond b (cond c (cond d rest (refuse 8)) (refuse 5)) (refuse 4)) (refuse 4)
-          ≡ (let n = cond a (cond b (cond c (cond d 0 8) 5) 4) 4 in cond (eqb n 0) rest (refuse n))
-      by-cases true true true true = refl
-      by-cases true true true false = refl
-      by-cases true true false d = refl
-      by-cases true false c d = refl
-      by-cases false b c d = refl
+      by-cases : (a b c d : Bool) (o : ℕ) → eqb o 0 ≡ false
+          → cond a (cond b (cond c (cond d rest (refuse 8)) (refuse o)) (refuse 4)) (refuse 4)
+          ≡ (let n = cond a (cond b (cond c (cond d 0 8) o) 4) 4 in cond (eqb n 0) rest (refuse n))
+      by-cases true true true true o z = refl
+      by-cases true true true false o z = refl
+      by-cases true true false d o z = rw z
+      by-cases true false c d o z = refl
+      by-cases false b c d o z = refl
 
   pub read-barred : ((c : ℕ) → claims (as-claim c) ≡ leb least c) → r ≢ 0 → Steps S (Read t k) S (Refused r)
   read-barred code n = refused (λ tally. by-number claims code _ ∙ rw (ne-eqb r 0 n))

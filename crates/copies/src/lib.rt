@@ -19,7 +19,7 @@ use state::SHARED;
 use state::Session;
 use state::WRITTEN;
 
-// What READ or WRITE of sheet k by save t is refused for before its copy is looked at: 4, 5 or 8, or 0 where it is not.
+// What READ or WRITE of sheet k by save t is refused for before its copy is looked at: 4, 13, 14, 5 or 8, or 0 where it is not.
 // In the first run any sheet is open, in the second one whose claim is `least` or more.
 fn barred(b: &[u8], m: usize, t: u8, k: u16, least: u8) -> u8
     requires { ⌜ Whole (byte-sizes m) (bytes m (now b)) ⌝ }
@@ -35,7 +35,7 @@ fn barred(b: &[u8], m: usize, t: u8, k: u16, least: u8) -> u8
         return 0;
     }
     if p != SECOND_RUN {
-        return 5;
+        return state::out_of_phase(p);
     }
     let c = state::claim(b, m, ti, ki);
     if c < least {

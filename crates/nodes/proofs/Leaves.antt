@@ -16,10 +16,10 @@ use Rattle.rules.proofs.Table.{same?}
 use Rattle.rules.proofs.Places.{at}
 use Rattle.state.specs.declared.Answer.the-variants.{Accepted, Refused}
 use Rattle.state.specs.Parts.{Parts, store, CLAIM, STANDING, OWNER, PHASE, ORDER, PLACE, TAKEN, GONE}
-use Rattle.state.specs.View.{set?, claim-in, entered, queue-in, nodes, view, no-tally}
+use Rattle.state.specs.View.{set?, out-of-phase, claim-in, entered, queue-in, nodes, view, no-tally}
 use Rattle.state.specs.Ready.{Ready, Gone, Trimmed}
 use Rattle.state.specs.Lent.{Steps}
-use Rattle.state.proofs.Codes.{over-code}
+use Rattle.state.proofs.OutOfPhase.{over-tests}
 use Rattle.state.proofs.Parts.{whole-store}
 use Rattle.state.proofs.Behind.{behind-left, behind-on}
 use Rattle.state.proofs.Places.{entries-cong, entries-without}
@@ -89,17 +89,17 @@ module _ {m : ℕ} {d : Parts} (ready : Ready m d) (n t : ℕ) (ln : n < nodes d
   }
 
   module _ {p : ℕ} (read : p ≡ getD (d PHASE) t 0) (value : List ℕ) where
-    pub apply-5 : p < 4 → (w seen : List ℕ) → Steps (view m d value seen w) (Apply n t) (view m d value seen w) (Refused 5)
-    apply-5 l w seen = refused (λ tally. rw (lt-ltb n (nodes d) ln, lt-ltb t 32 t32, ← read, over-code p, lt-leb 4 p l))
+    pub apply-out : p < 4 → {r : ℕ} → r ≡ out-of-phase p → (w seen : List ℕ) → Steps (view m d value seen w) (Apply n t) (view m d value seen w) (Refused r)
+    apply-out l out w seen = refused (λ tally. rw (lt-ltb n (nodes d) ln, lt-ltb t 32 t32, ← read, over-tests _ p, lt-leb 4 p l, out))
 
     pub apply-11 : 4 ≤ p → {h : Bool} → h ≡ has-entry (view m d [] [] [] no-tally) n t → h ≡ false → (w seen : List ℕ) → Steps (view m d value seen w) (Apply n t) (view m d value seen w) (Refused 11)
-    apply-11 l eh has w seen = refused (λ tally. rw (lt-ltb n (nodes d) ln, lt-ltb t 32 t32, ← read, over-code p, le-leb 4 p l, ← eh, has))
+    apply-11 l eh has w seen = refused (λ tally. rw (lt-ltb n (nodes d) ln, lt-ltb t 32 t32, ← read, over-tests _ p, le-leb 4 p l, ← eh, has))
 
     pub apply-steps : 4 ≤ p → {h : Bool} → h ≡ has-entry (view m d [] [] [] no-tally) n t → h ≡ true → {w w′ : List ℕ} → Applied m d value n t w m w′ → (g : ℕ) (seen : List ℕ)
         → Steps (view m d value seen w) (Apply n t) (view m (store left GONE n g) value seen w′) Accepted
     apply-steps l eh has {w′ = w′} a g seen =
         accepted
-        (λ tally. rw (lt-ltb n (nodes d) ln, lt-ltb t 32 t32, ← read, over-code p, le-leb 4 p l, ← eh, has))
+        (λ tally. rw (lt-ltb n (nodes d) ln, lt-ltb t 32 t32, ← read, over-tests _ p, le-leb 4 p l, ← eh, has))
         (λ tally. same-state refl (all-applied w′ a refl) (fun-ext (λ k. leaves k (getD (d OWNER) k 0))) refl refl refl refl refl refl refl refl refl refl)
         (λ tally. refl)
 

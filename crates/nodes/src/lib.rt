@@ -140,7 +140,8 @@ pub fn apply(
     let ti = t as usize;
     let p = state::phase(b, m, ti);
     if p < COMMITTED {
-        return Answer::Refused(5);
+        let r = state::out_of_phase(p);
+        return Answer::Refused(r);
     }
     let h = sheets::has_entry(b, listed, m, n, t);
     if !h {

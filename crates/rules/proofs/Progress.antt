@@ -12,7 +12,7 @@ use borrow.Author.Tests.{eq-eqb, lt-ltb, ltb-true, ltb-false}
 use Rattle.rules.specs.Table.{any}
 use Rattle.rules.specs.Sizes.{max-saves}
 use Rattle.rules.specs.Bytes.{Command, Submit, Take, Decide, Apply}
-use Rattle.rules.specs.State.{Phase, unused, first, submitted, second, committed, dropped, Claim, unclaimed, shared, exclusive, State, over, claims}
+use Rattle.rules.specs.State.{Phase, unused, first, submitted, second, committed, dropped, Claim, unclaimed, shared, exclusive, State, is-unused, over, claims}
 use Rattle.rules.specs.Steps.{mem, before, x-on, granted-as, granted, owns, has-taken, tests, check, pass}
 use Rattle.rules.specs.Serial.{History}
 use Rattle.rules.specs.Demand3.{of-four-kinds}
@@ -72,8 +72,8 @@ module _ (s : State) (l : History) (r : ℕ → ℕ → Option ℕ) (v : Inv s l
         go shared q = rw (at-front k o open-yet (rw q) (h (rw q)))
         go exclusive q = rw (at-front k o open-yet (rw q) (h (rw q)))
 
-    carry-out : over (s .phase t) ≡ true → Moves s
-    carry-out e = any-at (s .header .sheets) (λ k. mem t (s .queue k)) w (λ k o m. (
+    carry-out : not (is-unused (s .phase t)) ≡ true → over (s .phase t) ≡ true → Moves s
+    carry-out b e = any-at (s .header .sheets) (λ k. mem t (s .queue k)) w (λ k o m. (
       Apply (own k) t,
       refl,
       passes (tests s (Apply (own k) t)) (
@@ -81,11 +81,14 @@ module _ (s : State) (l : History) (r : ℕ → ℕ → Option ℕ) (v : Inv s l
         (
           small,
           (
-            e,
+            b,
             (
-              any-intro (s .header .sheets) (λ j. owns s (own k) j && mem t (s .queue j)) k o
-                  (rw (eq-eqb (own k) (own k) refl) m),
-              tt,
+              e,
+              (
+                any-intro (s .header .sheets) (λ j. owns s (own k) j && mem t (s .queue j)) k o
+                    (rw (eq-eqb (own k) (own k) refl) m),
+                tt,
+              ),
             ),
           ),
         ),
@@ -106,7 +109,7 @@ module _ (s : State) (l : History) (r : ℕ → ℕ → Option ℕ) (v : Inv s l
     decide-it e =
         all-or (s .header .sheets) taken-by
         (λ a. all-or (s .header .sheets) (λ k. granted s t k)
-        (λ g. (Decide t, refl, passes (tests s (Decide t)) (small, (rw e, (a, (g, tt))))))
+        (λ g. (Decide t, refl, passes (tests s (Decide t)) (small, (rw e, (rw e, (rw e, (a, (g, tt))))))))
         (λ k o f. clash (granted s t k) (granted-now k o (rw e) (taken-there k (all-at (s .header .sheets) taken-by a k o))) f))
         (λ k o f. (
           Take (own k),
@@ -118,9 +121,9 @@ module _ (s : State) (l : History) (r : ℕ → ℕ → Option ℕ) (v : Inv s l
     moves-by unused e j = absurd (true≢false (sym j))
     moves-by first e j = absurd (true≢false (sym j))
     moves-by submitted e j = decide-it e
-    moves-by second e j = (Submit t, rw e, passes (tests s (Submit t)) (small, (rw e, tt)))
-    moves-by committed e j = carry-out (rw e)
-    moves-by dropped e j = carry-out (rw e)
+    moves-by second e j = (Submit t, rw e, passes (tests s (Submit t)) (small, (rw e, (rw e, (rw e, tt)))))
+    moves-by committed e j = carry-out (rw e) (rw e)
+    moves-by dropped e j = carry-out (rw e) (rw e)
 
   pub progress : (k t : ℕ) → mem t (s .queue k) ≡ true → Moves s
   progress k t m =

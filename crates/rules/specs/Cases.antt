@@ -88,18 +88,23 @@ starred =
     ∷ case (W-43 ++ "04 01  07 00 01") (answers accepted) "" "P 0 1 C\nP 1 2 C\nO 0 7 1\nO 1 0 0\nT 15 1 1\n"
     ∷ []
 
--- the examples of the table of refused steps, 1 to 11; those of 4 and 10 are starred cases, above
+-- the examples of the table of refused steps, 1 to 14; those of 4 and 10 are starred cases, above, and 12 is no session's
 abbrev pub refusals : List Case
 refusals =
     case "00 01 00" (refusal 0 1) "" "R 0 1\n"
     ∷ case (fresh ++ "09") (refusal 3 2) "09" "O 0 0 0\nT 0 0 0\nR 3 2\n"
     ∷ case (fresh ++ "02 00") (refusal 3 3) "02 00" "O 0 0 0\nT 0 0 0\nR 3 3\n"
-    ∷ case (fresh ++ "04 00") (refusal 3 5) "04 00" "O 0 0 0\nT 0 0 0\nR 3 5\n"
+    -- SUBMIT of a save that is submitted
+    ∷ case (fresh ++ "01 00  04 00  04 00") (refusal 7 5) "04 00" "P 0 1 U\nO 0 0 0\nT 2 0 0\nR 7 5\n"
     ∷ case (fresh ++ "01 00 01 01 02 00 00 03 00 00 00 00 00 01 04 00 05 00 02 01 00") (refusal 21 6) "02 01 00" "P 0 1 U\nO 0 0 0\nT 6 0 0\nR 21 6\n"
     ∷ case (fresh ++ "01 00 03 00 00 00 00 00 05") (refusal 5 7) "03 00 00 00 00 00 05" "O 0 0 0\nT 1 0 0\nR 5 7\n"
     ∷ case (W-43 ++ "02 01 01  " ++ W-end) (refusal 43 8) "02 01 01" "P 0 1 C\nP 1 2 U\nO 0 7 1\nO 1 0 0\nT 13 1 0\nR 43 8\n"
     ∷ case (fresh ++ "05 00") (refusal 3 9) "05 00" "O 0 0 0\nT 0 0 0\nR 3 9\n"
     ∷ case (W ++ "07 00 01") (refusal 58 11) "07 00 01" "P 0 1 C\nP 1 2 C\nO 0 9 2\nO 1 0 0\nT 17 1 1\nR 58 11\n"
+    ∷ case (fresh ++ "04 00") (refusal 3 13) "04 00" "O 0 0 0\nT 0 0 0\nR 3 13\n"
+    -- SUBMIT of a committed save; BEGIN of one that was given up in its first run
+    ∷ case (W ++ "04 01") (refusal 58 14) "04 01" "P 0 1 C\nP 1 2 C\nO 0 9 2\nO 1 0 0\nT 17 1 1\nR 58 14\n"
+    ∷ case (fresh ++ "01 00  08 00  01 00") (refusal 7 14) "01 00" "O 0 0 0\nT 2 0 0\nR 7 14\n"
     ∷ []
 
 -- the answers on the way through W, and two places where a reading that looks natural goes wrong

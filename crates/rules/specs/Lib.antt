@@ -3,6 +3,7 @@ pub mod Sizes
 pub mod Bytes
 pub mod State
 pub mod Steps
+pub mod WhichPhase
 pub mod Serial
 pub mod Demand3
 pub mod Calls

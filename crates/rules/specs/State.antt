@@ -123,7 +123,7 @@ is-dropped dropped = true
 abbrev pub running : Phase → Bool
 running p = is-first p || is-second p
 
--- a save with an outcome to carry out
+-- a save that is over: its outcome, if it has entries, is to be carried out
 abbrev pub over : Phase → Bool
 over p = is-committed p || is-dropped p
 

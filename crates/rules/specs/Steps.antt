@@ -100,25 +100,32 @@ first-failed (g ∷ gs) = cond (g .passes) (first-failed gs) (refuse (g .number)
 abbrev test : Bool → ℕ → Test
 test b n = record { passes = b; number = n }
 
--- "per command 2, 3, 4, 5, 8, 6, 7, 9, 10, 11"; 2 and 3 are given where the bytes are read
+-- "both tested just before 5": the save has begun, and it is not over; so 5 is left for one begun and not over
+abbrev begun : Phase → Test
+begun p = test (not (is-unused p)) 13
+
+abbrev not-over : Phase → Test
+not-over p = test (not (over p)) 14
+
+-- "per command 2, 3, 4, 13, 14, 5, 8, 6, 7, 9, 10, 11"; 2 and 3 are given where the bytes are read
 abbrev pub tests : State → Command → List Test
-tests s (Begin t) = test (ltb t max-saves) 4 ∷ test (is-unused (s .phase t)) 5 ∷ []
+tests s (Begin t) = test (ltb t max-saves) 4 ∷ not-over (s .phase t) ∷ test (is-unused (s .phase t)) 5 ∷ []
 tests s (Read t k) =
-    test (ltb t max-saves) 4 ∷ test (ltb k (s .header .sheets)) 4 ∷ test (running (s .phase t)) 5
+    test (ltb t max-saves) 4 ∷ test (ltb k (s .header .sheets)) 4 ∷ begun (s .phase t) ∷ not-over (s .phase t) ∷ test (running (s .phase t)) 5
     ∷ test (is-first (s .phase t) || claims (s .claim t k)) 8
     ∷ test (is-second (s .phase t) || (has-copy (s .mark t k) || not (at-front (x-on (s .claim) k) (s .queue k)))) 6 ∷ []
 tests s (Write t k v) =
-    test (ltb t max-saves) 4 ∷ test (ltb k (s .header .sheets)) 4 ∷ test (running (s .phase t)) 5
+    test (ltb t max-saves) 4 ∷ test (ltb k (s .header .sheets)) 4 ∷ begun (s .phase t) ∷ not-over (s .phase t) ∷ test (running (s .phase t)) 5
     ∷ test (is-first (s .phase t) || is-x (s .claim t k)) 8 ∷ test (has-copy (s .mark t k)) 7 ∷ []
-tests s (Submit t) = test (ltb t max-saves) 4 ∷ test (running (s .phase t)) 5 ∷ []
+tests s (Submit t) = test (ltb t max-saves) 4 ∷ begun (s .phase t) ∷ not-over (s .phase t) ∷ test (running (s .phase t)) 5 ∷ []
 tests s (Take n) = test (ltb n (s .header .nodes)) 4 ∷ test (ltb (s .taken n) (length (s .order))) 9 ∷ []
 tests s (Decide t) =
-    test (ltb t max-saves) 4 ∷ test (is-submitted (s .phase t)) 5
+    test (ltb t max-saves) 4 ∷ begun (s .phase t) ∷ not-over (s .phase t) ∷ test (is-submitted (s .phase t)) 5
     ∷ test (all (s .header .sheets) (λ k. not (claims (s .claim t k)) || has-taken s (s .header .owner k) t)) 10
     ∷ test (all (s .header .sheets) (λ k. granted s t k)) 10 ∷ []
 tests s (Apply n t) =
-    test (ltb n (s .header .nodes)) 4 ∷ test (ltb t max-saves) 4 ∷ test (over (s .phase t)) 5 ∷ test (has-entry s n t) 11 ∷ []
-tests s (GiveUp t) = test (ltb t max-saves) 4 ∷ test (running (s .phase t)) 5 ∷ []
+    test (ltb n (s .header .nodes)) 4 ∷ test (ltb t max-saves) 4 ∷ begun (s .phase t) ∷ test (over (s .phase t)) 5 ∷ test (has-entry s n t) 11 ∷ []
+tests s (GiveUp t) = test (ltb t max-saves) 4 ∷ begun (s .phase t) ∷ not-over (s .phase t) ∷ test (running (s .phase t)) 5 ∷ []
 
 abbrev pub check : State → Command → Checked
 check s c = first-failed (tests s c)

@@ -12,11 +12,11 @@ use Rattle.rules.specs.State.{absent}
 use Rattle.rules.specs.Steps.{pass, refuse}
 use Rattle.state.specs.declared.Answer.the-variants.{Commits, SecondRun, Refused}
 use Rattle.state.specs.Parts.{Parts, byte-sizes, store, MARK, PHASE, FAILED}
-use Rattle.state.specs.View.{as-mark, flat, view, no-tally}
+use Rattle.state.specs.View.{as-mark, out-of-phase, flat, view, no-tally}
 use Rattle.state.specs.Changes.{entering}
 use Rattle.state.specs.Fill.{fill}
 use Rattle.state.specs.Ready.{Whole, Ready}
-use Rattle.state.proofs.Codes.{submitted-code}
+use Rattle.state.proofs.OutOfPhase.{submitted-tests}
 use Rattle.state.proofs.Parts.{whole-put}
 use Rattle.state.proofs.Stores.{row-in, row-out, length-fill}
 use Rattle.state.proofs.Steps.{refused, accepted, same-state}
@@ -39,8 +39,8 @@ not-both true false n e = refl
 not-both false b n e = refl
 
 module _ {m : ℕ} {d : Parts} (ready : Ready m d) (t : ℕ) (t32 : t < 32) {p : ℕ} (read : p ≡ getD (d PHASE) t 0) where
-  pub decide-5 : p ≢ 2 → Does m d (Decide t) d (Refused 5)
-  decide-5 n x = refused (λ tally. rw (lt-ltb t 32 t32, ← read, submitted-code p, ne-eqb p 2 n))
+  pub decide-out : p ≢ 2 → {r : ℕ} → r ≡ out-of-phase p → Does m d (Decide t) d (Refused r)
+  decide-out n out x = refused (λ tally. rw (lt-ltb t 32 t32, ← read, submitted-tests _ p, ne-eqb p 2 n, out))
 
   abbrev taken : Bool
   taken = taken-everywhere (view m d [] [] [] no-tally) t

@@ -9,13 +9,14 @@ use lib.Dec.{eqb}
 use borrow.Author.Tests.{ne-eqb, lt-ltb}
 use Rattle.rules.specs.Bytes.{Begin, Submit, GiveUp}
 use Rattle.rules.specs.State.{Phase}
+use Rattle.rules.specs.Steps.{pass}
 use Rattle.rules.specs.Table.{upd}
 use Rattle.state.specs.declared.Answer.the-variants.{Accepted, Recommits, Refused}
 use Rattle.state.specs.Parts.{Parts, store, PHASE, RUNS}
-use Rattle.state.specs.View.{as-phase}
+use Rattle.state.specs.View.{as-phase, out-of-phase}
 use Rattle.state.specs.Ready.{Ready}
 use Rattle.state.specs.Changes.{entering}
-use Rattle.state.proofs.Codes.{unused-code, first-code, second-code}
+use Rattle.state.proofs.OutOfPhase.{unused-tests, running-tests}
 use Rattle.state.proofs.Parts.{whole-store}
 use Rattle.state.proofs.Stores.{view-set}
 use Rattle.state.proofs.Steps.{refused, accepted, same-state}
@@ -36,14 +37,15 @@ holds-entering {d = d} r t p = record {
 }
 
 module _ {m : ℕ} {d : Parts} (ready : Ready m d) (t : ℕ) (t32 : t < 32) {p : ℕ} (read : p ≡ getD (d PHASE) t 0) where
-  pub begin-5 : p ≢ 0 → Does m d (Begin t) d (Refused 5)
-  begin-5 n x = refused (λ tally. rw (lt-ltb t 32 t32, ← read, unused-code p, ne-eqb p 0 n))
+  module _ {r : ℕ} (out : r ≡ out-of-phase p) where
+    pub begin-out : p ≢ 0 → Does m d (Begin t) d (Refused r)
+    begin-out n x = refused (λ tally. rw (lt-ltb t 32 t32, ← read, unused-tests pass p, ne-eqb p 0 n, out))
 
-  pub give-up-5 : (eqb p 1 || eqb p 3) ≡ false → Does m d (GiveUp t) d (Refused 5)
-  give-up-5 run x = refused (λ tally. rw (lt-ltb t 32 t32, ← read, first-code p, second-code p, run))
+    pub give-up-out : (eqb p 1 || eqb p 3) ≡ false → Does m d (GiveUp t) d (Refused r)
+    give-up-out run x = refused (λ tally. rw (lt-ltb t 32 t32, ← read, running-tests pass p, run, out))
 
-  pub submit-5 : p ≢ 1 → p ≢ 3 → Does m d (Submit t) d (Refused 5)
-  submit-5 n k x = refused (λ tally. rw (lt-ltb t 32 t32, ← read, first-code p, second-code p, ne-eqb p 1 n, ne-eqb p 3 k))
+    pub submit-out : p ≢ 1 → p ≢ 3 → Does m d (Submit t) d (Refused r)
+    submit-out n k x = refused (λ tally. rw (lt-ltb t 32 t32, ← read, running-tests pass p, ne-eqb p 1 n, ne-eqb p 3 k, out))
 
   -- the phase becomes v
   pub phase-set : (v : ℕ) → _≡_ {A = ℕ → Phase} (λ u. as-phase (getD (set (d PHASE) t v) u 0)) (upd (λ u. as-phase (getD (d PHASE) u 0)) t (as-phase v))
@@ -56,7 +58,7 @@ module _ {m : ℕ} {d : Parts} (ready : Ready m d) (t : ℕ) (t32 : t < 32) {p :
   pub give-up-steps : (eqb p 1 || eqb p 3) ≡ true → Does m d (GiveUp t) (store d PHASE t 5) Accepted
   give-up-steps run x =
       accepted
-      (λ tally. rw (lt-ltb t 32 t32, ← read, first-code p, second-code p, run))
+      (λ tally. rw (lt-ltb t 32 t32, ← read, running-tests pass p, run))
       (λ tally. same-state refl refl refl (phase-set 5) refl refl refl refl refl refl refl refl refl)
       (λ tally. refl)
 

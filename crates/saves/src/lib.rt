@@ -31,7 +31,8 @@ pub fn begin(b: &mut [u8], m: usize, t: u8) -> Answer
     let ti = t as usize;
     let p = state::phase(b, m, ti);
     if p != UNUSED {
-        return Answer::Refused(5);
+        let r = state::out_of_phase(p);
+        return Answer::Refused(r);
     }
     state::enter_run(b, m, ti, FIRST_RUN);
     Answer::Accepted
@@ -50,7 +51,8 @@ pub fn give_up(b: &mut [u8], m: usize, t: u8) -> Answer
     let p = state::phase(b, m, ti);
     let run = state::running(p);
     if !run {
-        return Answer::Refused(5);
+        let r = state::out_of_phase(p);
+        return Answer::Refused(r);
     }
     state::set_phase(b, m, ti, DROPPED);
     Answer::Accepted
@@ -121,7 +123,8 @@ pub fn submit(b: &mut [u8], listed: &mut [u16], m: usize, t: u8) -> Answer
         state::set_phase(b, m, ti, COMMITTED);
         return Answer::Recommits;
     }
-    Answer::Refused(5)
+    let r = state::out_of_phase(p);
+    Answer::Refused(r)
 }
 
 // Save t has no copy any more.
@@ -161,7 +164,8 @@ pub fn decide(b: &mut [u8], listed: &[u16], m: usize, t: u8) -> Answer
     let ti = t as usize;
     let p = state::phase(b, m, ti);
     if p != SUBMITTED {
-        return Answer::Refused(5);
+        let r = state::out_of_phase(p);
+        return Answer::Refused(r);
     }
     let g = decidable(b, listed, m, t);
     if !g {

@@ -3,6 +3,7 @@ pub mod Parts
 pub mod Changes
 pub mod Tables
 pub mod Codes
+pub mod OutOfPhase
 pub mod Stores
 pub mod Places
 pub mod Steps

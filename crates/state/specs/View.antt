@@ -3,7 +3,7 @@ use Prim.Native.Nat.{ℕ, zero, suc, _+_, _*_}
 use mathlib.Core.Bool.{Bool, not, _&&_, cond}
 use mathlib.Core.List.{List}
 use lib.ListN.{getD, take}
-use lib.Dec.{eqb, ltb}
+use lib.Dec.{eqb, ltb, leb}
 use Rattle.rules.specs.Bytes.{Header}
 use Rattle.rules.specs.State.{Phase, unused, first, submitted, second, committed, dropped, Mark, absent, copied, written, Claim, unclaimed, shared, exclusive, Tally, State, claims}
 use Rattle.rules.specs.Steps as rules
@@ -24,6 +24,10 @@ as-phase (suc (suc zero)) = submitted
 as-phase (suc (suc (suc zero))) = second
 as-phase (suc (suc (suc (suc zero)))) = committed
 as-phase (suc (suc (suc (suc (suc p))))) = dropped
+
+-- what a save of phase p is refused with by a command that this phase does not allow
+unfoldable pub out-of-phase : ℕ → ℕ
+out-of-phase p = cond (eqb p 0) 13 (cond (leb 4 p) 14 5)
 
 abbrev pub as-mark : ℕ → Mark
 as-mark zero = absent

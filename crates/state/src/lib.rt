@@ -11,7 +11,7 @@ ghost use lib.Dec.{eqb};
 ghost use lib.ListN.{length, getD, set};
 ghost use Rattle.state.specs.Parts.{off, byte-sizes, hint-sizes, bytes, hints, store, MARK, CLAIM, STANDING, OWNER, PHASE, FAILED, RUNS, ORDER, PLACE, TAKEN, GONE, NODES, PLACED, MANY, LISTED};
 ghost use Rattle.state.specs.Slices.{slices};
-ghost use Rattle.state.specs.View.{placed};
+ghost use Rattle.state.specs.View.{placed, out-of-phase};
 ghost use Rattle.state.specs.Ready.{Whole, Ready};
 ghost use Rattle.state.specs.Changes.{entering, joining, moving-on};
 ghost use Rattle.state.specs.Starts.{Blank, Starts};
@@ -128,6 +128,19 @@ pub fn running(p: u8) -> bool
         return true;
     }
     p == SECOND_RUN
+}
+
+// What a save of phase p is refused with by a command that this phase does not allow.
+pub fn out_of_phase(p: u8) -> u8
+    ensures { λ r. ⌜ r ≡ out-of-phase p ⌝ }
+{
+    if p == UNUSED {
+        return 13;
+    }
+    if COMMITTED <= p {
+        return 14;
+    }
+    5
 }
 
 // ---- Rows, for the loops over one

@@ -1,4 +1,5 @@
-//! Every case of document 01 and every example of its table of refusals.
+//! Every case of document 01 and every example of its table of refusals, as the requests of
+//! document 02 changed them.
 
 use crate::command::{read_header, Command, MOST_BYTES};
 use crate::demand3;
@@ -154,7 +155,7 @@ fn giving_up_in_the_first_run_leaves_no_row() {
     assert_eq!(end_of(&session).saves[0].phase, Phase::Dropped);
     // Its phase allows APPLY, but it has no entry; and its number never begins again.
     refused(&fresh("01 00 02 00 00 08 00 07 00 00"), 10, 11, 3);
-    refused(&fresh("01 00 02 00 00 08 00 01 00"), 10, 5, 2);
+    refused(&fresh("01 00 02 00 00 08 00 01 00"), 10, 14, 2);
 }
 
 #[test]
@@ -243,15 +244,11 @@ fn refusal_4() {
 
 #[test]
 fn refusal_5() {
-    refused(&fresh("04 00"), 3, 5, 2);
-    for command in ["02 00 00", "03 00 00 00 00 00 00", "06 00", "07 00 00", "08 00"] {
-        let session = fresh(command);
-        refused(&session, 3, 5, session.len() - 3);
-    }
     refused(&fresh("01 00 01 00"), 5, 5, 2);
+    refused(&fresh("01 00 06 00"), 5, 5, 2);
+    refused(&fresh("01 00 07 00 00"), 5, 5, 3);
     refused(&fresh("01 00 04 00 04 00"), 7, 5, 2);
     refused(&fresh("01 00 04 00 08 00"), 7, 5, 2);
-    refused(&fresh("01 00 04 00 06 00 06 00"), 9, 5, 2);
 }
 
 #[test]
@@ -307,6 +304,60 @@ fn refusal_12_comes_first() {
         let mut buffer = vec![7; 4_095];
         assert_eq!(write_report(&Session::run(&session), &mut buffer), 0);
         assert_eq!(buffer, vec![7; 4_095]);
+    }
+}
+
+#[test]
+fn refusal_13() {
+    refused(&fresh("04 00"), 3, 13, 2);
+    for command in ["02 00 00", "03 00 00 00 00 00 00", "06 00", "07 00 00", "08 00"] {
+        let session = fresh(command);
+        refused(&session, 3, 13, session.len() - 3);
+    }
+    // 4 comes before it.
+    refused(&fresh("02 05 01"), 3, 4, 3);
+}
+
+#[test]
+fn refusal_14() {
+    refused(&fresh("01 00 04 00 06 00 06 00"), 9, 14, 2);
+    // A save that was given up in its first run is over, and 4 comes before that too.
+    refused(&fresh("01 00 08 00 01 00"), 7, 14, 2);
+    refused(&fresh("01 00 08 00 08 00"), 7, 14, 2);
+    refused(&fresh("01 00 08 00 02 00 01"), 7, 4, 3);
+}
+
+#[test]
+fn every_command_in_every_phase() {
+    // Save 1 of W: unused, in its first run, submitted, in its second run, committed, dropped. In each of
+    // them save 0 is in the order and node 1 has taken nothing.
+    let after = |offset, more| [&bytes(W)[..offset], &bytes(more)].concat();
+    let unused = bytes("02 02 00 01 01 00 04 00");
+    let phases = [
+        unused,
+        after(30, ""),
+        after(41, ""),
+        after(46, ""),
+        after(46, "04 01"),
+        after(43, "08 01"),
+    ];
+    // The refusal in each of them; 0 where the command is accepted.
+    let table = [
+        ("01 01", [0, 5, 5, 5, 14, 14]),
+        ("02 01 00", [13, 0, 5, 0, 14, 14]),
+        ("03 01 00 00 00 00 09", [13, 0, 5, 0, 14, 14]),
+        ("04 01", [13, 0, 5, 0, 14, 14]),
+        ("05 01", [0, 0, 0, 0, 0, 0]),
+        ("06 01", [13, 5, 0, 5, 14, 14]),
+        ("07 00 01", [13, 5, 5, 5, 0, 0]),
+        ("08 01", [13, 0, 5, 0, 14, 14]),
+    ];
+    for (command, numbers) in table {
+        for (start, number) in phases.iter().zip(numbers) {
+            let run = Session::run(&[start.as_slice(), &bytes(command)].concat());
+            let given = run.refused.map_or(0, |refused| refused.number);
+            assert_eq!(given, number, "{command} after {} bytes", start.len());
+        }
     }
 }
 

@@ -38,6 +38,20 @@ pub enum Command {
 }
 
 impl Command {
+    /// The save that the command is on; TAKE is on none.
+    pub fn save(self) -> Option<usize> {
+        match self {
+            Command::Begin { save }
+            | Command::Read { save, .. }
+            | Command::Write { save, .. }
+            | Command::Submit { save }
+            | Command::Decide { save }
+            | Command::Apply { save, .. }
+            | Command::GiveUp { save } => Some(save),
+            Command::Take { .. } => None,
+        }
+    }
+
     /// The bytes of the command in a session.
     pub fn bytes(self) -> Vec<u8> {
         match self {

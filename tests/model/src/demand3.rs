@@ -88,7 +88,7 @@ fn check_from(
                 continue;
             }
             if let Ok(answer) = engine.step(command) {
-                whole.push(Step { command, answer, end: 0 });
+                whole.push(Step { command, answer, end: 0, cell: None });
                 tail += 1;
                 if tail > bound {
                     return Err(format!("bound: over {bound} steps after {} ", steps.len()));

@@ -3,7 +3,7 @@
 use crate::command::{Command, Header, MOST_SAVES};
 use std::collections::BTreeMap;
 
-#[derive(Clone, Copy, Debug, PartialEq, Eq, Hash)]
+#[derive(Clone, Copy, Debug, PartialEq, Eq, PartialOrd, Ord, Hash)]
 pub enum Phase {
     Unused,
     FirstRun,
@@ -11,6 +11,17 @@ pub enum Phase {
     SecondRun,
     Committed,
     Dropped,
+}
+
+impl Phase {
+    pub const ALL: [Phase; 6] = [
+        Phase::Unused,
+        Phase::FirstRun,
+        Phase::Submitted,
+        Phase::SecondRun,
+        Phase::Committed,
+        Phase::Dropped,
+    ];
 }
 
 /// S is shared, X exclusive.
@@ -118,10 +129,10 @@ impl Engine {
         Ok(answer)
     }
 
-    /// The number that the command, well formed and in range, is refused with: 5 to 11.
+    /// The number that the command, well formed and in range, is refused with: 5 to 11, 13 or 14.
     pub fn refusal(&self, command: Command) -> Option<u8> {
-        if !self.phase_allows(command) {
-            return Some(5);
+        if let Some(number) = self.refusal_of_phase(command) {
+            return Some(number);
         }
         match command {
             Command::Read { save, sheet } => self.refusal_of_read(save, sheet),
@@ -129,6 +140,19 @@ impl Engine {
             Command::Take { node } if self.taken[node] == self.order.len() => Some(9),
             Command::Decide { save } if !self.decidable(save) => Some(10),
             Command::Apply { node, save } if !self.has_entry_at(save, node) => Some(11),
+            _ => None,
+        }
+    }
+
+    /// 13 for any command but BEGIN on an unused save, 14 for any command but APPLY on a committed
+    /// or dropped one; then 5, which is so kept for a save begun and not over.
+    fn refusal_of_phase(&self, command: Command) -> Option<u8> {
+        let begins = matches!(command, Command::Begin { .. });
+        let applies = matches!(command, Command::Apply { .. });
+        match command.save().map(|save| self.saves[save].phase) {
+            Some(Phase::Unused) if !begins => Some(13),
+            Some(Phase::Committed | Phase::Dropped) if !applies => Some(14),
+            _ if !self.phase_allows(command) => Some(5),
             _ => None,
         }
     }

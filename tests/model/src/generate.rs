@@ -47,6 +47,8 @@ struct Plan {
     keep_refused: usize,
     /// A refusal to end with, looked for once the session has so many bytes.
     wanted: Option<(u8, usize)>,
+    /// Refusal 5 is looked for on a save of its second run only, since few come that far.
+    second_run: bool,
     /// The sheets that most READs and WRITEs go to.
     hot: usize,
 }
@@ -86,7 +88,7 @@ fn plan(prng: &mut Prng) -> Plan {
     let length = if long { length } else { prng.between(length / 8, length) };
     let wanted = if prng.one_in(2) {
         // The numbers that need a history are wanted more often than the others.
-        let number = prng.pick(&[2, 3, 4, 5, 5, 5, 6, 6, 7, 8, 8, 8, 9, 10, 10, 11]);
+        let number = prng.pick(&[2, 3, 4, 5, 5, 5, 6, 6, 7, 8, 8, 8, 9, 10, 10, 11, 13, 14, 14]);
         Some((number, prng.below(length)))
     } else {
         None
@@ -99,6 +101,7 @@ fn plan(prng: &mut Prng) -> Plan {
         moods: !long,
         keep_refused: prng.pick(&[0, 0, 0, 2_000, 300]),
         wanted,
+        second_run: prng.one_in(2),
         hot: prng.between(1, sheets.min(6)),
     }
 }
@@ -170,10 +173,16 @@ fn refused_with(prng: &mut Prng, plan: &Plan, engine: &Engine, number: u8) -> Op
             let found = (0..20)
                 .map(|round| {
                     if round % 2 == 0 {
-                        any_command(prng, plan)
+                        let phase = prng.pick(&Phase::ALL);
+                        let save = save_in(prng, plan, engine, &[phase]);
+                        command_on(prng, plan, save)
                     } else {
                         candidate(prng, plan, engine)
                     }
+                })
+                .filter(|command| {
+                    let phase = command.save().map(|save| engine.saves[save].phase);
+                    number != 5 || !plan.second_run || phase == Some(Phase::SecondRun)
                 })
                 .find(|&command| engine.refusal(command) == Some(number));
             found?.bytes()
@@ -207,6 +216,11 @@ fn out_of_range(prng: &mut Prng, plan: &Plan) -> Vec<u8> {
 /// Any command in range, whatever the state.
 fn any_command(prng: &mut Prng, plan: &Plan) -> Command {
     let save = prng.below(plan.saves.min(MOST_SAVES));
+    command_on(prng, plan, save)
+}
+
+/// Any command, on that save if it is on one.
+fn command_on(prng: &mut Prng, plan: &Plan, save: usize) -> Command {
     let sheet = prng.below(plan.header.sheets());
     let node = prng.below(plan.header.nodes);
     match prng.below(8) {

@@ -1,7 +1,10 @@
 //! A whole session: it runs to its end or to its first refusal.
 
 use crate::command::{read_command, read_header, Command, Header};
-use crate::engine::{Answer, Engine};
+use crate::engine::{Answer, Engine, Phase};
+
+/// A command's byte with the phase of its save when it came: a cell of the exam desk's table.
+pub type Cell = (u8, Phase);
 
 #[derive(Clone, Copy, Debug, PartialEq, Eq)]
 pub struct Refused {
@@ -9,6 +12,8 @@ pub struct Refused {
     pub number: u8,
     /// How many bytes of the session, from `offset`, hold the refused command.
     pub shown: usize,
+    /// Nothing where the command could not be read, and for TAKE.
+    pub cell: Option<Cell>,
 }
 
 /// An accepted command with its answer, and where the session goes on after it.
@@ -17,6 +22,8 @@ pub struct Step {
     pub command: Command,
     pub answer: Answer,
     pub end: usize,
+    /// Nothing for TAKE.
+    pub cell: Option<Cell>,
 }
 
 #[derive(Clone, Debug)]
@@ -39,7 +46,7 @@ impl Session {
         let mut session =
             Session { length: bytes.len(), started: None, steps: Vec::new(), refused: None };
         let Some(header) = read_header(bytes) else {
-            session.refused = Some(Refused { offset: 0, number: 1, shown: 0 });
+            session.refused = Some(Refused { offset: 0, number: 1, shown: 0, cell: None });
             return session;
         };
         let mut engine = Engine::new(&header);
@@ -50,18 +57,19 @@ impl Session {
                 Ok(read) => read,
                 Err(bad) => {
                     session.refused =
-                        Some(Refused { offset, number: bad.number, shown: bad.shown });
+                        Some(Refused { offset, number: bad.number, shown: bad.shown, cell: None });
                     break;
                 }
             };
+            let cell = command.save().map(|save| (bytes[offset], engine.saves[save].phase));
             match engine.step(command) {
                 Ok(answer) => {
                     offset += length;
-                    session.steps.push(Step { command, answer, end: offset });
+                    session.steps.push(Step { command, answer, end: offset, cell });
                     watch(&header, &engine);
                 }
                 Err(number) => {
-                    session.refused = Some(Refused { offset, number, shown: length });
+                    session.refused = Some(Refused { offset, number, shown: length, cell });
                     break;
                 }
             }

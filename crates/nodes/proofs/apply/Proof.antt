@@ -4,7 +4,7 @@ use Rattle.state.specs.Lent.{applying}
 use Rattle.state.proofs.Steps.{refused}
 use Rattle.state.proofs.Lent.{keeps-same}
 use Rattle.nodes.proofs.Lent.{applying-moves, applying-keeps}
-use Rattle.nodes.proofs.Leaves.{node8, apply-5, apply-11, apply-steps, ready-left, trimmed-left, stored, holds-left}
+use Rattle.nodes.proofs.Leaves.{node8, apply-out, apply-11, apply-steps, ready-left, trimmed-left, stored, holds-left}
 use borrow.Author.Needs.{needs}
 use Rattle.nodes.proofs.apply.Statement.{statement}
 use Rattle.nodes.proofs.apply.Tie as tie
@@ -31,13 +31,16 @@ returns-2 c = let s = c .before .before .before .before .before .before .before 
 phase-requires : tie.Need-phase-requires
 phase-requires c κs = (c .before .before .before .before .before .before .before .before .before .pre .0 .shaped .whole, c .before .if2 .left)
 
+out-of-phase-requires : tie.Need-out-of-phase-requires
+out-of-phase-requires c κs = search needs
+
 same-length-3 : tie.Need-same-length-3
 same-length-3 c = search needs
 
 returns-3 : tie.Need-returns-3
-returns-3 c = let s = c .before .before .before .before .before .before .before .before .before .before .before in
-    let ln = rw (c .before .before .before .before .before .nodes .ensures) at (c .before .before .before .before .if1 .left) in
-    (λ x. apply-5 (s .pre .0) (s .args .n) (s .args .t) ln (c .before .before .before .if2 .left) (c .before .phase .ensures) (s .args .value .now) (c .if3 .taken) (s .args .w .now) (x .seen), keeps-same (applying (s .args .b .now) (s .args .value .now) (s .args .w .now)))
+returns-3 c = let s = c .before .before .before .before .before .before .before .before .before .before .before .before in
+    let ln = rw (c .before .before .before .before .before .before .nodes .ensures) at (c .before .before .before .before .before .if1 .left) in
+    (λ x. apply-out (s .pre .0) (s .args .n) (s .args .t) ln (c .before .before .before .before .if2 .left) (c .before .before .phase .ensures) (s .args .value .now) (c .before .if3 .taken) (c .out-of-phase .ensures) (s .args .w .now) (x .seen), keeps-same (applying (s .args .b .now) (s .args .value .now) (s .args .w .now)))
 
 has-entry-requires : tie.Need-has-entry-requires
 has-entry-requires c κs = let s = c .before .before .before .before .before .before .before .before .before .before .before .before in
@@ -95,6 +98,7 @@ apply-spec =
     same-length-2
     returns-2
     phase-requires
+    out-of-phase-requires
     same-length-3
     returns-3
     has-entry-requires

@@ -3,7 +3,7 @@ use borrow.Author.Tests.{le-ltb}
 use Rattle.state.specs.Lent.{own}
 use Rattle.state.proofs.Steps.{refused}
 use Rattle.state.proofs.Lent.{keeps-same, own-moves, own-keeps}
-use Rattle.saves.proofs.Phases.{begin-5, begin-steps, holds-entering}
+use Rattle.saves.proofs.Phases.{begin-out, begin-steps, holds-entering}
 use borrow.Author.Needs.{needs}
 use Rattle.saves.proofs.begin.Statement.{statement}
 use Rattle.saves.proofs.begin.Tie as tie
@@ -14,11 +14,14 @@ returns c = (λ x. refused (λ tally. simp (le-ltb _ _ (c .if1 .taken))), keeps-
 phase-requires : tie.Need-phase-requires
 phase-requires c κs = search needs
 
+out-of-phase-requires : tie.Need-out-of-phase-requires
+out-of-phase-requires c κs = search needs
+
 same-length : tie.Need-same-length
 same-length c = search needs
 
 returns-2 : tie.Need-returns-2
-returns-2 c = (begin-5 (c .before .before .before .before .before .pre) (c .before .before .before .before .before .args .t) (c .before .before .before .if1 .left) (c .before .phase .ensures) (c .if2 .taken), keeps-same (own (c .before .before .before .before .before .args .b .now)))
+returns-2 c = (begin-out (c .before .before .before .before .before .before .pre) (c .before .before .before .before .before .before .args .t) (c .before .before .before .before .if1 .left) (c .before .before .phase .ensures) (c .out-of-phase .ensures) (c .before .if2 .taken), keeps-same (own (c .before .before .before .before .before .before .args .b .now)))
 
 enter-run-requires : tie.Need-enter-run-requires
 enter-run-requires c κs = search needs
@@ -36,6 +39,7 @@ begin-spec =
     (tie.spec
     returns
     phase-requires
+    out-of-phase-requires
     same-length
     returns-2
     enter-run-requires

@@ -5,7 +5,7 @@ use Rattle.state.specs.Lent.{own}
 use Rattle.state.proofs.Steps.{refused}
 use Rattle.state.proofs.Lent.{keeps-same, own-moves, own-keeps}
 use Rattle.saves.proofs.Phases.{holds-phase}
-use Rattle.saves.proofs.Decisions.{decide-5, decide-10, decide-commits, decide-second, whole-entered, stored-again, holds-again}
+use Rattle.saves.proofs.Decisions.{decide-out, decide-10, decide-commits, decide-second, whole-entered, stored-again, holds-again}
 use borrow.Author.Needs.{needs}
 use Rattle.saves.proofs.decide.Statement.{statement}
 use Rattle.saves.proofs.decide.Tie as tie
@@ -16,11 +16,14 @@ returns c = (λ x. refused (λ tally. simp (le-ltb _ _ (c .if1 .taken))), keeps-
 phase-requires : tie.Need-phase-requires
 phase-requires c κs = search needs
 
+out-of-phase-requires : tie.Need-out-of-phase-requires
+out-of-phase-requires c κs = search needs
+
 same-length : tie.Need-same-length
 same-length c = search needs
 
 returns-2 : tie.Need-returns-2
-returns-2 c = (decide-5 (c .before .before .before .before .before .before .pre .0) (c .before .before .before .before .before .before .args .t) (c .before .before .before .if1 .left) (c .before .phase .ensures) (c .if2 .taken), keeps-same (own (c .before .before .before .before .before .before .args .b .now)))
+returns-2 c = (decide-out (c .before .before .before .before .before .before .before .pre .0) (c .before .before .before .before .before .before .before .args .t) (c .before .before .before .before .if1 .left) (c .before .before .phase .ensures) (c .before .if2 .taken) (c .out-of-phase .ensures), keeps-same (own (c .before .before .before .before .before .before .before .args .b .now)))
 
 decidable-requires : tie.Need-decidable-requires
 decidable-requires c κs = search needs
@@ -70,6 +73,7 @@ decide-spec =
     (tie.spec
     returns
     phase-requires
+    out-of-phase-requires
     same-length
     returns-2
     decidable-requires

@@ -4,7 +4,7 @@ use borrow.Author.Tests.{le-ltb, not-true, not-false}
 use Rattle.state.specs.Lent.{own}
 use Rattle.state.proofs.Steps.{refused}
 use Rattle.state.proofs.Lent.{keeps-same, own-moves, own-keeps}
-use Rattle.saves.proofs.Phases.{give-up-5, give-up-steps, holds-phase}
+use Rattle.saves.proofs.Phases.{give-up-out, give-up-steps, holds-phase}
 use borrow.Author.Needs.{needs}
 use Rattle.saves.proofs.give_up.Statement.{statement}
 use Rattle.saves.proofs.give_up.Tie as tie
@@ -18,11 +18,14 @@ phase-requires c κs = search needs
 running-requires : tie.Need-running-requires
 running-requires c κs = search needs
 
+out-of-phase-requires : tie.Need-out-of-phase-requires
+out-of-phase-requires c κs = search needs
+
 same-length : tie.Need-same-length
 same-length c = search needs
 
 returns-2 : tie.Need-returns-2
-returns-2 c = (give-up-5 (c .before .before .before .before .before .before .pre) (c .before .before .before .before .before .before .args .t) (c .before .before .before .before .if1 .left) (c .before .before .phase .ensures) (sym (c .before .running .ensures) ∙ not-true _ (c .if2 .taken)), keeps-same (own (c .before .before .before .before .before .before .args .b .now)))
+returns-2 c = (give-up-out (c .before .before .before .before .before .before .before .pre) (c .before .before .before .before .before .before .before .args .t) (c .before .before .before .before .before .if1 .left) (c .before .before .before .phase .ensures) (c .out-of-phase .ensures) (sym (c .before .before .running .ensures) ∙ not-true _ (c .before .if2 .taken)), keeps-same (own (c .before .before .before .before .before .before .before .args .b .now)))
 
 set-phase-requires : tie.Need-set-phase-requires
 set-phase-requires c κs = search needs
@@ -41,6 +44,7 @@ give-up-spec =
     returns
     phase-requires
     running-requires
+    out-of-phase-requires
     same-length
     returns-2
     set-phase-requires

@@ -3,7 +3,7 @@ use borrow.Author.Tests.{le-ltb}
 use Rattle.state.specs.Lent.{listing}
 use Rattle.state.proofs.Steps.{refused}
 use Rattle.state.proofs.Lent.{keeps-same, own-moves, listing-keeps}
-use Rattle.saves.proofs.Phases.{submit-5, submit-second, holds-phase}
+use Rattle.saves.proofs.Phases.{submit-out, submit-second, holds-phase}
 use Rattle.saves.proofs.Order.{whole-claimed, whole-submitted, room-submitted, stored, submit-first, shaped-first, listed-first}
 use mathlib.Core.Path.{refl}
 use borrow.Author.Needs.{needs}
@@ -56,11 +56,14 @@ returns-3 c = let s = c .before .before .before .before .before .before .before 
     let h = holds-phase (s .pre .0) (s .args .t) 4 in
     (own-moves (s .args .b .now) _ (c .before .before .set-phase2 .ensures) (submit-second (s .pre .0) (s .args .t) (c .before .before .before .before .before .before .before .before .if1 .left) (c .before .before .before .before .before .before .phase .ensures) (c .before .before .before .before .if3 .taken)), listing-keeps (s .args .b .now) (s .args .listed .now) _ _ (c .before .before .set-phase2 .ensures) (h .shaped) (h .hints _))
 
+out-of-phase-requires : tie.Need-out-of-phase-requires
+out-of-phase-requires c κs = search needs
+
 same-length-4 : tie.Need-same-length-4
 same-length-4 c = search needs
 
 returns-4 : tie.Need-returns-4
-returns-4 c = (submit-5 (c .before .before .before .before .before .before .before .pre .0) (c .before .before .before .before .before .before .before .args .t) (c .before .before .before .before .if1 .left) (c .before .before .phase .ensures) (c .before .if2 .left) (c .if3 .left), keeps-same (listing (c .before .before .before .before .before .before .before .args .b .now) (c .before .before .before .before .before .before .before .args .listed .now)))
+returns-4 c = (submit-out (c .before .before .before .before .before .before .before .before .pre .0) (c .before .before .before .before .before .before .before .before .args .t) (c .before .before .before .before .before .if1 .left) (c .before .before .before .phase .ensures) (c .out-of-phase .ensures) (c .before .before .if2 .left) (c .before .if3 .left), keeps-same (listing (c .before .before .before .before .before .before .before .before .args .b .now) (c .before .before .before .before .before .before .before .before .args .listed .now)))
 
 pub submit-spec : {M : Type 1} → statement M
 submit-spec =
@@ -78,5 +81,6 @@ submit-spec =
     set-phase-requires-2
     same-length-3
     returns-3
+    out-of-phase-requires
     same-length-4
     returns-4)
