@@ -28,6 +28,25 @@ enum {
     CUSPHEWA_SECOND_RUN = 6,    /* DECIDE */
     CUSPHEWA_REFUSED = 7        /* the offset is the value, the refusal the number */
 };
+
+/* The refusals, by number. 13, 14 and 5 tell a save that never began, one that is over (committed or dropped), and one between. */
+enum {
+    CUSPHEWA_BAD_SESSION = 1,       /* the header is short or out of range, or the session over 16,384 bytes */
+    CUSPHEWA_UNKNOWN_COMMAND = 2,
+    CUSPHEWA_CUT_SHORT = 3,         /* operands are missing */
+    CUSPHEWA_OUT_OF_RANGE = 4,      /* no such save, node or sheet */
+    CUSPHEWA_WRONG_PHASE = 5,       /* a save begun and not over, whose phase does not allow the command */
+    CUSPHEWA_SHEET_HELD = 6,        /* first-run READ: an X is at the front of the sheet's queue */
+    CUSPHEWA_NO_COPY = 7,           /* WRITE without a copy from this run */
+    CUSPHEWA_OUTSIDE_CLAIM = 8,     /* second run: READ outside the claim, or WRITE where it is not X */
+    CUSPHEWA_NOTHING_TO_TAKE = 9,   /* TAKE: the node has taken every submitted save */
+    CUSPHEWA_UNDECIDED = 10,        /* DECIDE: a concerned node has not taken the save, or an entry waits */
+    CUSPHEWA_NO_ENTRY = 11,         /* APPLY: the save has no entry at the node */
+    CUSPHEWA_SHORT_BUFFER = 12,     /* cusphewa_report returns 0; no answer has it */
+    CUSPHEWA_NEVER_BEGAN = 13,      /* any command but BEGIN on an unused save */
+    CUSPHEWA_IS_OVER = 14           /* any command but APPLY on a committed or dropped save */
+};
+
 uint64_t cusphewa_answer(const uint8_t *session, size_t session_len);
 
 /* The part of the session that is shown, as offset * 2^32 + size. */

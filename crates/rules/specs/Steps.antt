@@ -100,14 +100,15 @@ first-failed (g ∷ gs) = cond (g .passes) (first-failed gs) (refuse (g .number)
 abbrev test : Bool → ℕ → Test
 test b n = record { passes = b; number = n }
 
--- "both tested just before 5": the save has begun, and it is not over; so 5 is left for one begun and not over
+-- "13 for any command but BEGIN on an unused save, 14 for any command but APPLY on a committed or dropped save"
 abbrev begun : Phase → Test
 begun p = test (not (is-unused p)) 13
 
 abbrev not-over : Phase → Test
 not-over p = test (not (over p)) 14
 
--- "per command 2, 3, 4, 13, 14, 5, 8, 6, 7, 9, 10, 11"; 2 and 3 are given where the bytes are read
+-- In the order 2, 3, 4, 13, 14, 5, 8, 6, 7, 9, 10, 11: document 01's, with 13 and 14 "tested just before 5". 2 and 3 are given where the
+-- bytes are read.
 abbrev pub tests : State → Command → List Test
 tests s (Begin t) = test (ltb t max-saves) 4 ∷ not-over (s .phase t) ∷ test (is-unused (s .phase t)) 5 ∷ []
 tests s (Read t k) =
