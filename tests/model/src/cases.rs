@@ -395,7 +395,7 @@ fn demand_3_is_met_with_something_to_check() {
 fn demand_3_on_the_worked_session_and_on_many() {
     let mut prng = Prng::new(3);
     demand3::check(&bytes(W), &mut prng).expect("demand 3");
-    for _ in 0..300 {
+    for _ in 0..1_000 {
         let session = generate::input(&mut prng).session;
         if session.len() < 3_000 {
             demand3::check(&session, &mut prng).expect("demand 3");
