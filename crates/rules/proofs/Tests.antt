@@ -1,4 +1,5 @@
--- A list of tests: where no refusal is given every test passed, and back. What was asked goes by number, so that no proof knows a place in a list.
+-- A list of tests: where no refusal is given every test passed, and back. What a command passed is asked for by the refusal's number, so
+-- that a test put in moves no proof which asks.
 use Prim.Native.Nat.{ℕ}
 use native.Mathlib.Omega.{arith}
 use mathlib.Core.Path.{_≡_, refl}
@@ -15,7 +16,7 @@ Passed (g ∷ gs) = (g .passes ≡ true) × Passed gs
 pub refuse-pass : {P : Type 0} (n : ℕ) → refuse n ≡ pass → P
 refuse-pass n e = absurd (let z : _≡_ {A = ℕ} 0 1 = cc in omega arith)
 
-pub passed : (gs : List Test) → first-failed gs ≡ pass → Passed gs
+passed : (gs : List Test) → first-failed gs ≡ pass → Passed gs
 passed [] e = tt
 passed (g ∷ gs) e = bool (g .passes) (λ q. (q, passed gs (rw q at e))) (λ q. refuse-pass (g .number) (rw q at e))
 
