@@ -28,6 +28,7 @@ enum {
     CUSPHEWA_SECOND_RUN = 6,    /* DECIDE */
     CUSPHEWA_REFUSED = 7        /* the offset is the value, the refusal the number */
 };
+uint64_t cusphewa_answer(const uint8_t *session, size_t session_len);
 
 /* The refusals, by number. 13, 14 and 5 tell a save that never began, one that is over (committed or dropped), and one between. */
 enum {
@@ -46,8 +47,6 @@ enum {
     CUSPHEWA_NEVER_BEGAN = 13,      /* any command but BEGIN on an unused save */
     CUSPHEWA_IS_OVER = 14           /* any command but APPLY on a committed or dropped save */
 };
-
-uint64_t cusphewa_answer(const uint8_t *session, size_t session_len);
 
 /* The part of the session that is shown, as offset * 2^32 + size. */
 uint64_t cusphewa_shown(const uint8_t *session, size_t session_len);

@@ -1,5 +1,5 @@
 -- A list of tests: where no refusal is given every test passed, and back. What a command passed is asked for by the refusal's number, so
--- that a test put in moves no proof which asks.
+-- that a test of another number put in moves no proof which asks.
 use Prim.Native.Nat.{ℕ}
 use native.Mathlib.Omega.{arith}
 use mathlib.Core.Path.{_≡_, refl}
