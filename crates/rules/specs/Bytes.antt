@@ -6,7 +6,7 @@ use mathlib.Core.Option.{Option, none, some}
 use lib.ListN.{length, getD, take, drop}
 use lib.Dec.{eqb, leb, ltb}
 use Rattle.rules.specs.Table.{all}
-use Rattle.rules.specs.Sizes.{max-nodes, max-sheets, max-session}
+use Rattle.rules.specs.Sizes.{max-nodes, max-sheets, max-saves, max-session}
 
 -- ---- The header
 
@@ -56,6 +56,13 @@ width save = 1
 width sheet = 1
 width node = 1
 width content = 4
+
+-- what 4 asks of an operand, where it is run, written or read: that it is below this. A content has no limit but its bytes'.
+abbrev pub limit : (nodes sheets : ℕ) → Operand → ℕ
+limit n m save = max-saves
+limit n m sheet = m
+limit n m node = n
+limit n m content = 4294967296
 
 -- one line of the table of commands
 pub record Form : Type 0 where

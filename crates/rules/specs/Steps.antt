@@ -5,8 +5,7 @@ use mathlib.Core.List.{List, [], _∷_, _++_}
 use lib.ListN.{length, getD}
 use lib.Dec.{eqb, ltb}
 use Rattle.rules.specs.Table.{upd, upd2, row, all, any}
-use Rattle.rules.specs.Sizes.{max-saves}
-use Rattle.rules.specs.Bytes.{Command, Begin, Read, Write, Submit, Take, Decide, Apply, GiveUp}
+use Rattle.rules.specs.Bytes.{Operand, save, sheet, node, limit, Command, Begin, Read, Write, Submit, Take, Decide, Apply, GiveUp}
 use Rattle.rules.specs.State.{Sheet, store, Phase, first, submitted, second, committed, dropped, Mark, absent, copied, written, Claim, unclaimed, shared, exclusive, Tally, State, is-unused, is-first, is-second, is-submitted, is-committed, running, over, has-copy, is-written, claims, is-x}
 
 -- ---- Queues: lists of saves, first come first
@@ -100,6 +99,10 @@ first-failed (g ∷ gs) = cond (g .passes) (first-failed gs) (refuse (g .number)
 abbrev test : Bool → ℕ → Test
 test b n = record { passes = b; number = n }
 
+-- 4: save above 31, node not below N, sheet not below M
+abbrev operand : State → Operand → ℕ → Test
+operand s o v = test (ltb v (limit (s .header .nodes) (s .header .sheets) o)) 4
+
 -- "13 for any command but BEGIN on an unused save, 14 for any command but APPLY on a committed or dropped save"
 abbrev begun : Phase → Test
 begun p = test (not (is-unused p)) 13
@@ -110,23 +113,23 @@ not-over p = test (not (over p)) 14
 -- In the order 2, 3, 4, 13, 14, 5, 8, 6, 7, 9, 10, 11: document 01's, with 13 and 14 "tested just before 5". 2 and 3 are given where the
 -- bytes are read.
 abbrev pub tests : State → Command → List Test
-tests s (Begin t) = test (ltb t max-saves) 4 ∷ not-over (s .phase t) ∷ test (is-unused (s .phase t)) 5 ∷ []
+tests s (Begin t) = operand s save t ∷ not-over (s .phase t) ∷ test (is-unused (s .phase t)) 5 ∷ []
 tests s (Read t k) =
-    test (ltb t max-saves) 4 ∷ test (ltb k (s .header .sheets)) 4 ∷ begun (s .phase t) ∷ not-over (s .phase t) ∷ test (running (s .phase t)) 5
+    operand s save t ∷ operand s sheet k ∷ begun (s .phase t) ∷ not-over (s .phase t) ∷ test (running (s .phase t)) 5
     ∷ test (is-first (s .phase t) || claims (s .claim t k)) 8
     ∷ test (is-second (s .phase t) || (has-copy (s .mark t k) || not (at-front (x-on (s .claim) k) (s .queue k)))) 6 ∷ []
 tests s (Write t k v) =
-    test (ltb t max-saves) 4 ∷ test (ltb k (s .header .sheets)) 4 ∷ begun (s .phase t) ∷ not-over (s .phase t) ∷ test (running (s .phase t)) 5
+    operand s save t ∷ operand s sheet k ∷ begun (s .phase t) ∷ not-over (s .phase t) ∷ test (running (s .phase t)) 5
     ∷ test (is-first (s .phase t) || is-x (s .claim t k)) 8 ∷ test (has-copy (s .mark t k)) 7 ∷ []
-tests s (Submit t) = test (ltb t max-saves) 4 ∷ begun (s .phase t) ∷ not-over (s .phase t) ∷ test (running (s .phase t)) 5 ∷ []
-tests s (Take n) = test (ltb n (s .header .nodes)) 4 ∷ test (ltb (s .taken n) (length (s .order))) 9 ∷ []
+tests s (Submit t) = operand s save t ∷ begun (s .phase t) ∷ not-over (s .phase t) ∷ test (running (s .phase t)) 5 ∷ []
+tests s (Take n) = operand s node n ∷ test (ltb (s .taken n) (length (s .order))) 9 ∷ []
 tests s (Decide t) =
-    test (ltb t max-saves) 4 ∷ begun (s .phase t) ∷ not-over (s .phase t) ∷ test (is-submitted (s .phase t)) 5
+    operand s save t ∷ begun (s .phase t) ∷ not-over (s .phase t) ∷ test (is-submitted (s .phase t)) 5
     ∷ test (all (s .header .sheets) (λ k. not (claims (s .claim t k)) || has-taken s (s .header .owner k) t)) 10
     ∷ test (all (s .header .sheets) (λ k. granted s t k)) 10 ∷ []
 tests s (Apply n t) =
-    test (ltb n (s .header .nodes)) 4 ∷ test (ltb t max-saves) 4 ∷ begun (s .phase t) ∷ test (over (s .phase t)) 5 ∷ test (has-entry s n t) 11 ∷ []
-tests s (GiveUp t) = test (ltb t max-saves) 4 ∷ begun (s .phase t) ∷ not-over (s .phase t) ∷ test (running (s .phase t)) 5 ∷ []
+    operand s node n ∷ operand s save t ∷ begun (s .phase t) ∷ test (over (s .phase t)) 5 ∷ test (has-entry s n t) 11 ∷ []
+tests s (GiveUp t) = operand s save t ∷ begun (s .phase t) ∷ not-over (s .phase t) ∷ test (running (s .phase t)) 5 ∷ []
 
 abbrev pub check : State → Command → Checked
 check s c = first-failed (tests s c)

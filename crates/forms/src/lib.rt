@@ -1,0 +1,110 @@
+// The table of commands by its operands: which stand at a command's three slots, what each is below, how many bytes each has.
+ghost use mathlib.Core.Path.{_≡_};
+ghost use Rattle.forms.specs.Slots.{operand-of, Has, slot-limit, slot-width, is-present};
+
+// What stands at a slot; Absent behind a command's last operand.
+pub enum Kind {
+    Save,
+    Sheet,
+    Node,
+    Content,
+    Absent,
+}
+
+pub struct Kinds {
+    pub first: Kind,
+    pub second: Kind,
+    pub third: Kind,
+}
+
+// The operands of a command number, none where there is no such command.
+pub fn shape(c: u32) -> Kinds
+    ensures { λ r. ⌜ Has c r ⌝ }
+{
+    match c {
+        1 => Kinds {
+            first: Kind::Save,
+            second: Kind::Absent,
+            third: Kind::Absent,
+        },
+        2 => Kinds {
+            first: Kind::Save,
+            second: Kind::Sheet,
+            third: Kind::Absent,
+        },
+        3 => Kinds {
+            first: Kind::Save,
+            second: Kind::Sheet,
+            third: Kind::Content,
+        },
+        4 => Kinds {
+            first: Kind::Save,
+            second: Kind::Absent,
+            third: Kind::Absent,
+        },
+        5 => Kinds {
+            first: Kind::Node,
+            second: Kind::Absent,
+            third: Kind::Absent,
+        },
+        6 => Kinds {
+            first: Kind::Save,
+            second: Kind::Absent,
+            third: Kind::Absent,
+        },
+        7 => Kinds {
+            first: Kind::Node,
+            second: Kind::Save,
+            third: Kind::Absent,
+        },
+        8 => Kinds {
+            first: Kind::Save,
+            second: Kind::Absent,
+            third: Kind::Absent,
+        },
+        _ => Kinds {
+            first: Kind::Absent,
+            second: Kind::Absent,
+            third: Kind::Absent,
+        },
+    }
+}
+
+// Whether there is an operand. Every command has a first one, so a number that has none is no command's.
+pub fn present(k: Kind) -> bool
+    ensures { λ r. ⌜ r ≡ is-present (operand-of k) ⌝ }
+{
+    match k {
+        Kind::Save => true,
+        Kind::Sheet => true,
+        Kind::Node => true,
+        Kind::Content => true,
+        Kind::Absent => false,
+    }
+}
+
+// What the number at a slot is below.
+pub fn limit(k: Kind, nodes: u64, sheets: u64) -> u64
+    ensures { λ r. ⌜ r ≡ slot-limit nodes sheets (operand-of k) ⌝ }
+{
+    match k {
+        Kind::Save => 32,
+        Kind::Sheet => sheets,
+        Kind::Node => nodes,
+        Kind::Content => 4294967296,
+        Kind::Absent => 1,
+    }
+}
+
+// How many bytes it has.
+pub fn width(k: Kind) -> usize
+    ensures { λ r. ⌜ r ≡ slot-width (operand-of k) ⌝ }
+{
+    match k {
+        Kind::Save => 1,
+        Kind::Sheet => 1,
+        Kind::Node => 1,
+        Kind::Content => 4,
+        Kind::Absent => 0,
+    }
+}

@@ -1,0 +1,6 @@
+pub mod Headings
+pub mod Steps
+pub mod Lists
+pub mod Putting
+pub mod Passing
+pub mod Whole

@@ -1,0 +1,135 @@
+-- The steps before word i passed, and t counts their bytes.
+use Prim.Native.Nat.{ℕ, _-_}
+use mathlib.Core.Path.{_≡_, _∙_}
+use native.Mathlib.Omega.{arith}
+use lib.ListN.{length, getD}
+use Rattle.writing.proofs.Steps.{step-short}
+use Rattle.writing.proofs.Lists.{Passed, passed-none, passed-next, passed-refused, passed-cut, passed-all}
+use borrow.Author.Needs.{needs}
+use Rattle.writing.proofs.tested.Statement.{statement}
+use Rattle.writing.proofs.tested.Tie as tie
+
+abbrev Inv-loop : tie.InvT-loop
+Inv-loop nodes sheets steps i₀ q₀ t₀ i q t = Passed nodes sheets steps i q t
+
+abbrev μ-loop : tie.MeasureT-loop
+μ-loop nodes sheets steps i₀ q₀ t₀ i q t = length steps - i
+
+loop-holds : tie.Need-loop-holds Inv-loop μ-loop
+loop-holds c = passed-none _ _ _
+
+sub-loop : tie.Need-sub-loop Inv-loop μ-loop
+sub-loop c = search needs
+
+mul-c : tie.Need-mul-c Inv-loop μ-loop
+mul-c c = search needs
+
+shared-slice-read-c : tie.Need-shared-slice-read-c Inv-loop μ-loop
+shared-slice-read-c c = search needs
+
+add-step-refusal : tie.Need-add-step-refusal Inv-loop μ-loop
+add-step-refusal c = search needs
+
+mul-step-refusal : tie.Need-mul-step-refusal Inv-loop μ-loop
+mul-step-refusal c = search needs
+
+shared-slice-read-step-refusal : tie.Need-shared-slice-read-step-refusal Inv-loop μ-loop
+shared-slice-read-step-refusal c = search needs
+
+add-step-refusal-2 : tie.Need-add-step-refusal-2 Inv-loop μ-loop
+add-step-refusal-2 c = search needs
+
+mul-step-refusal-2 : tie.Need-mul-step-refusal-2 Inv-loop μ-loop
+mul-step-refusal-2 c = search needs
+
+shared-slice-read-step-refusal-2 : tie.Need-shared-slice-read-step-refusal-2 Inv-loop μ-loop
+shared-slice-read-step-refusal-2 c = search needs
+
+add-step-refusal-3 : tie.Need-add-step-refusal-3 Inv-loop μ-loop
+add-step-refusal-3 c = search needs
+
+mul-step-refusal-3 : tie.Need-mul-step-refusal-3 Inv-loop μ-loop
+mul-step-refusal-3 c = search needs
+
+shared-slice-read-step-refusal-3 : tie.Need-shared-slice-read-step-refusal-3 Inv-loop μ-loop
+shared-slice-read-step-refusal-3 c = search needs
+
+step-refusal-requires : tie.Need-step-refusal-requires Inv-loop μ-loop
+step-refusal-requires c κs = search needs
+
+returns : tie.Need-returns Inv-loop μ-loop
+returns c = passed-refused (c .before .before .before .before .before .before .before .loop .inv) (omega arith) _ (c .before .step-refusal .ensures) (c .if1 .taken)
+
+step-size-requires : tie.Need-step-size-requires Inv-loop μ-loop
+step-size-requires c κs = search needs
+
+add-capped : tie.Need-add-capped Inv-loop μ-loop
+add-capped c =
+    let l = c .before .before .before .before .before .before .before .before .loop in
+    omega (arith, c .step-size .ensures 0 0 0, step-short (getD (c .before .before .before .before .before .before .before .before .before .before .args .steps .now) (l .i) 0) 0 0 0)
+
+capped-requires : tie.Need-capped-requires Inv-loop μ-loop
+capped-requires c κs = search needs
+
+add-i : tie.Need-add-i Inv-loop μ-loop
+add-i c = search needs
+
+add-q : tie.Need-add-q Inv-loop μ-loop
+add-q c = search needs
+
+loop-less : tie.Need-loop-less Inv-loop μ-loop
+loop-less c = search needs
+
+loop-again : tie.Need-loop-again Inv-loop μ-loop
+loop-again c =
+    let z : _≡_ {A = ℕ} 0 (c .before .before .before .step-refusal .result) = omega arith in
+    passed-next (c .before .before .before .before .before .before .before .before .before .loop .inv) (omega arith) _ _ (z ∙ c .before .before .before .step-refusal .ensures) (c .before .step-size .ensures _ _ _) (c .capped .ensures)
+
+mul-cut-refusal : tie.Need-mul-cut-refusal Inv-loop μ-loop
+mul-cut-refusal c = search needs
+
+shared-slice-read-cut-refusal : tie.Need-shared-slice-read-cut-refusal Inv-loop μ-loop
+shared-slice-read-cut-refusal c = search needs
+
+cut-refusal-requires : tie.Need-cut-refusal-requires Inv-loop μ-loop
+cut-refusal-requires c κs = search needs
+
+returns-2 : tie.Need-returns-2 Inv-loop μ-loop
+returns-2 c = passed-cut (c .before .before .before .before .loop .inv) _ (c .cut-refusal .ensures) (c .before .before .if2 .taken) (omega arith)
+
+returns-3 : tie.Need-returns-3 Inv-loop μ-loop
+returns-3 c = passed-all (c .before .before .loop .inv) (omega arith)
+
+pub tested-spec : {M : Type 1} → statement M
+tested-spec =
+    tie.close
+    (tie.spec
+    Inv-loop
+    μ-loop
+    loop-holds
+    sub-loop
+    mul-c
+    shared-slice-read-c
+    add-step-refusal
+    mul-step-refusal
+    shared-slice-read-step-refusal
+    add-step-refusal-2
+    mul-step-refusal-2
+    shared-slice-read-step-refusal-2
+    add-step-refusal-3
+    mul-step-refusal-3
+    shared-slice-read-step-refusal-3
+    step-refusal-requires
+    returns
+    step-size-requires
+    add-capped
+    capped-requires
+    add-i
+    add-q
+    loop-less
+    loop-again
+    mul-cut-refusal
+    shared-slice-read-cut-refusal
+    cut-refusal-requires
+    returns-2
+    returns-3)

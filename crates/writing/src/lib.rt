@@ -1,0 +1,283 @@
+// Writing a session: a header and a list of steps, in words, as bytes. First everything is tested, then written.
+use forms::Kind;
+ghost use mathlib.Core.Path.{_≡_};
+ghost use mathlib.Core.List.{List, [], _∷_};
+ghost use Prim.Native.Nat.{ℕ, _+_, _<_, _≤_, min};
+ghost use lib.ListN.{length};
+ghost use lib.Dec.{ltb};
+ghost use Rattle.rules.specs.Table.{all};
+ghost use Rattle.rules.specs.Bytes.{byte};
+ghost use Rattle.rules.specs.Writing as rules;
+ghost use Rattle.forms.specs.Slots.{operand-of, slot-width};
+ghost use Rattle.forms.proofs.Slots.{step};
+ghost use Rattle.text.specs.Wrote.{Wrote};
+ghost use Rattle.writing.specs.Meaning.{heading-of, number-of, Sizes, steps-of, Passes, outcome-of};
+
+const MAX_SESSION: usize = 16384;
+
+const MAX_NODES: usize = 8;
+
+const MAX_SHEETS: usize = 64;
+
+// How many bytes were written, or a refusal with its place.
+pub enum Written {
+    Bytes(usize),
+    Refused(usize, u8),
+}
+
+// How many steps there are and how many bytes they have, or the first refusal of a step with its place.
+enum Sized {
+    Steps(usize, usize),
+    Refused(usize, u8),
+}
+
+// ---- Tests
+
+// Whether each owner is below n.
+fn owners_below(owners: &[u8], n: usize) -> bool
+    ensures { λ r. ⌜ r ≡ all (length (now (owners .entry))) (λ k. ltb (byte (now (owners .entry)) k) n) ⌝ }
+{
+    let mut k: usize = 0;
+    while k < owners.len() {
+        if n <= owners[k] as usize {
+            return false;
+        }
+        k += 1;
+    }
+    true
+}
+
+// Whether a header is in range and has an owner for each sheet.
+fn heading_fits(nodes: usize, sheets: usize, owners: &[u8]) -> bool
+    ensures { λ r. ⌜ r ≡ rules.heading-fits (heading-of nodes sheets (now (owners .entry))) ⌝ }
+{
+    if owners.len() != sheets {
+        return false;
+    }
+    if nodes < 1 {
+        return false;
+    }
+    if MAX_NODES < nodes {
+        return false;
+    }
+    if sheets < 1 {
+        return false;
+    }
+    if MAX_SHEETS < sheets {
+        return false;
+    }
+    owners_below(owners, nodes)
+}
+
+// The refusal that a step earns, 0 where it passes.
+fn step_refusal(nodes: u64, sheets: u64, c: u32, x: u32, y: u32, z: u32) -> u8
+    ensures { λ r. ⌜ r ≡ number-of (rules.check-step nodes sheets (step c x y z)) ⌝ }
+{
+    let s = forms::shape(c);
+    let j = s.first;
+    let k = s.second;
+    let l = s.third;
+    if !forms::present(j) {
+        return 2;
+    }
+    if forms::limit(j, nodes, sheets) <= x as u64 {
+        return 4;
+    }
+    if forms::limit(k, nodes, sheets) <= y as u64 {
+        return 4;
+    }
+    if forms::limit(l, nodes, sheets) <= z as u64 {
+        return 4;
+    }
+    0
+}
+
+// The refusal of a step that is cut short.
+fn cut_refusal(c: u32) -> u8
+    ensures { λ r. ⌜ ((n m : ℕ) (vs : List ℕ) → length vs < 3 → r ≡ number-of (rules.check-step n m (record { number = c; operands = vs }))) ⌝ }
+{
+    let s = forms::shape(c);
+    let j = s.first;
+    if forms::present(j) {
+        return 4;
+    }
+    2
+}
+
+// How many bytes a step has.
+fn step_size(c: u32) -> usize
+    ensures { λ r. ⌜ ((x y z : ℕ) → r ≡ length (rules.step-bytes (step c x y z))) ⌝ }
+{
+    let s = forms::shape(c);
+    let j = s.first;
+    let k = s.second;
+    let l = s.third;
+    1 + (forms::width(j) + (forms::width(k) + forms::width(l)))
+}
+
+// A number of bytes as far as it matters: one more than a session may have stands for all above.
+fn capped(n: usize) -> usize
+    ensures { λ r. ⌜ r ≡ min n 16385 ⌝ }
+{
+    if MAX_SESSION < n {
+        return MAX_SESSION + 1;
+    }
+    n
+}
+
+// Tests the steps one by one and counts their bytes.
+fn tested(nodes: u64, sheets: u64, steps: &[u32]) -> Sized
+    ensures { λ r. ⌜ Sizes nodes sheets (rules.instructions (now (steps .entry))) r ⌝ }
+{
+    let mut i: usize = 0;
+    let mut q: usize = 0;
+    let mut t: usize = 0;
+    while 4 <= steps.len() - i {
+        let c = steps[i];
+        let e = step_refusal(nodes, sheets, c, steps[i + 1], steps[i + 2], steps[i + 3]);
+        if 0 < e {
+            return Sized::Refused(q, e);
+        }
+        t = capped(t + step_size(c));
+        i += 4;
+        q += 1;
+    }
+    if i < steps.len() {
+        return Sized::Refused(q, cut_refusal(steps[i]));
+    }
+    Sized::Steps(q, t)
+}
+
+// ---- Bytes
+
+// One byte.
+fn put(buf: &mut [u8], at: usize, b: u8) -> usize
+    requires { ⌜ at < length (now buf) ⌝ }
+    ensures { λ r. ⌜ Wrote (now (buf .entry)) at (b ∷ []) 1 r (now (buf .exit)) ⌝ }
+{
+    buf[at] = b;
+    at + 1
+}
+
+// A content, most significant byte first.
+fn put_content(buf: &mut [u8], at: usize, v: u32) -> usize
+    requires { ⌜ at + 4 ≤ length (now buf) ⌝ }
+    ensures { λ r. ⌜ Wrote (now (buf .entry)) at (rules.in-bytes 4 v) 4 r (now (buf .exit)) ⌝ }
+{
+    buf[at] = (v / 16777216 % 256) as u8;
+    buf[at + 1] = (v / 65536 % 256) as u8;
+    buf[at + 2] = (v / 256 % 256) as u8;
+    buf[at + 3] = (v % 256) as u8;
+    at + 4
+}
+
+// The number at a slot, in as many bytes as its operand has.
+fn put_number(buf: &mut [u8], at: usize, k: Kind, v: u32) -> usize
+    requires { ⌜ at + slot-width (operand-of k) ≤ length (now buf) ⌝ }
+    ensures { λ r. ⌜ Wrote (now (buf .entry)) at (rules.in-bytes (slot-width (operand-of k)) v) 4 r (now (buf .exit)) ⌝ }
+{
+    match k {
+        Kind::Save => put(buf, at, (v % 256) as u8),
+        Kind::Sheet => put(buf, at, (v % 256) as u8),
+        Kind::Node => put(buf, at, (v % 256) as u8),
+        Kind::Content => put_content(buf, at, v),
+        Kind::Absent => at,
+    }
+}
+
+// A step.
+fn put_step(buf: &mut [u8], at: usize, c: u32, x: u32, y: u32, z: u32) -> usize
+    requires { ⌜ (c < 256) × (at + length (rules.step-bytes (step c x y z)) ≤ length (now buf)) ⌝ }
+    ensures { λ r. ⌜ Wrote (now (buf .entry)) at (rules.step-bytes (step c x y z)) 13 r (now (buf .exit)) ⌝ }
+{
+    let s = forms::shape(c);
+    let j = s.first;
+    let k = s.second;
+    let l = s.third;
+    let e = put(buf, at, (c % 256) as u8);
+    let f = put_number(buf, e, j, x);
+    let g = put_number(buf, f, k, y);
+    put_number(buf, g, l, z)
+}
+
+// Owners, a byte each.
+fn put_owners(buf: &mut [u8], at: usize, owners: &[u8]) -> usize
+    requires { ⌜ at + length (now owners) ≤ length (now buf) ⌝ }
+    ensures { λ r. ⌜ Wrote (now (buf .entry)) at (now (owners .entry)) (length (now (owners .entry))) r (now (buf .exit)) ⌝ }
+{
+    let mut e = at;
+    let mut k: usize = 0;
+    while k < owners.len() {
+        e = put(buf, e, owners[k]);
+        k += 1;
+    }
+    e
+}
+
+// Steps that pass.
+fn put_steps(buf: &mut [u8], at: usize, steps: &[u32]) -> usize
+    requires { ⌜ Passes (now steps) × (at + length (steps-of (now steps)) ≤ length (now buf)) ⌝ }
+    ensures { λ r. ⌜ Wrote (now (buf .entry)) at (steps-of (now (steps .entry))) (length (steps-of (now (steps .entry)))) r (now (buf .exit)) ⌝ }
+{
+    let mut e = at;
+    let mut i: usize = 0;
+    while 4 <= steps.len() - i {
+        e = put_step(buf, e, steps[i], steps[i + 1], steps[i + 2], steps[i + 3]);
+        i += 4;
+    }
+    e
+}
+
+// A session, in room for it.
+fn put_session(
+    session: &mut [u8],
+    nodes: usize,
+    sheets: usize,
+    owners: &[u8],
+    steps: &[u32],
+) -> usize
+    requires { ⌜ (nodes < 256) × (sheets < 256) × Passes (now steps) × (length (rules.session-bytes (heading-of nodes sheets (now owners)) (rules.instructions (now steps))) ≤ length (now session)) ⌝ }
+    ensures { λ r. ⌜
+        Wrote (now (session .entry)) 0 (rules.session-bytes (heading-of nodes sheets (now (owners .entry))) (rules.instructions (now (steps .entry))))
+        (2 + (length (now (owners .entry)) + length (steps-of (now (steps .entry))))) r (now (session .exit))
+        ⌝ }
+{
+    let a = put(session, 0, (nodes % 256) as u8);
+    let b = put(session, a, (sheets % 256) as u8);
+    let d = put_owners(session, b, owners);
+    put_steps(session, d, steps)
+}
+
+// ---- The call
+
+// Writes a session to the front of the room, or refuses and writes nothing.
+pub fn write(
+    nodes: usize,
+    sheets: usize,
+    owners: &[u8],
+    steps: &[u32],
+    session: &mut [u8],
+) -> Written
+    ensures { λ r. ⌜
+        record { outcome = outcome-of r; room = now (session .exit) }
+        ≡ rules.write-call (heading-of nodes sheets (now (owners .entry))) (rules.instructions (now (steps .entry))) (now (session .entry))
+        ⌝ }
+{
+    if !heading_fits(nodes, sheets, owners) {
+        return Written::Refused(0, 1);
+    }
+    let sizes = tested(nodes as u64, sheets as u64, steps);
+    match sizes {
+        Sized::Refused(p, n) => Written::Refused(p, n),
+        Sized::Steps(count, bytes) => {
+            let size = 2 + sheets + bytes;
+            if MAX_SESSION < size {
+                return Written::Refused(count, 1);
+            }
+            if session.len() < size {
+                return Written::Refused(size, 15);
+            }
+            Written::Bytes(put_session(session, nodes, sheets, owners, steps))
+        }
+    }
+}
