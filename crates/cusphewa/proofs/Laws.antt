@@ -1,21 +1,20 @@
 -- The calls' needs, each as one law in plain variables.
 use Prim.Native.Nat.{ℕ, _+_, _-_, _*_, _≤_, _<_}
 use mathlib.Core.Path.{_≡_, sym, ap, _∙_}
-use mathlib.Core.Bool.{false}
 use mathlib.Core.List.{List, [], _∷_}
 use native.Mathlib.Omega.{arith}
 use borrow.Author.Tests.{lt-ltb, le-ltb}
 use lib.ListN.{length, take, drop}
-use Rattle.rules.specs.Bytes.{header, opens, reading}
+use Rattle.rules.specs.Bytes.{header, reading}
 use Rattle.rules.specs.State.{fresh}
 use Rattle.rules.specs.Steps.{Event, run}
 use Rattle.rules.specs.Calls as calls
 use Rattle.rules.specs.Report.{stop-line, refusal-line, report, Filled, report-call}
-use Rattle.rules.proofs.Table.{bool}
 use Rattle.rules.proofs.Sessions.{commands-of, final, session-final, stop-final, reply-final, stop-unopened, reply-unopened, report-unopened}
-use Rattle.wire.specs.declared.Opened.the-variants.{Header, Bad}
+use Rattle.wire.specs.declared.Opened.the-variants.{Bad}
 use Rattle.wire.specs.Meaning.{opened}
 use Rattle.wire.proofs.Header.{opens-has}
+use Rattle.wire.proofs.Opening.{Opening, unopened}
 use Rattle.state.specs.declared.Verdict.{Verdict}
 use Rattle.state.specs.declared.Verdict.the-variants.{Valid, Invalid}
 use Rattle.state.specs.View.{verdict-of}
@@ -28,18 +27,8 @@ use Rattle.session.specs.declared.Reply.the-variants as reply
 use Rattle.session.specs.declared.Ended.{Ended}
 use Rattle.session.specs.Meaning.{stop-of, reply-of}
 use Rattle.session.specs.Carried.{Within, Answered}
-use Rattle.session.proofs.Needs.{Opening}
 use Rattle.session.proofs.Lines.{within-less}
 use Rattle.cusphewa.specs.Codes.{verdict-code, answer-code, part-code, Near, NearReply}
-
--- ---- The header
-
-pub unopened : (b : List ℕ) → Bad ≡ opened b → opens b ≡ false
-unfolding opened
-unopened b e = bool (opens b) (λ o. absurd (clash (rw o at e))) (λ o. o)
-  where
-    clash : {n m : ℕ} → Bad ≡ Header n m → ⊥
-    clash f = let z : _≡_ {A = ℕ} 0 1 = cc in omega arith
 
 -- ---- Where a run stops
 

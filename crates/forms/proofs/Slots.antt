@@ -7,13 +7,15 @@ use mathlib.Core.Option.{Option, none, some}
 use native.Mathlib.Omega.{arith}
 use borrow.Author.Tests.{ne-eqb, le-ltb}
 use lib.Dec.{eqb, ltb}
-use lib.ListN.{length, take, drop}
-use Rattle.rules.specs.Bytes.{Operand, Form, form-of, commands, widths, big-endian}
+use lib.ListN.{length, drop}
+use Rattle.rules.specs.Bytes.{Operand, save, sheet, node, content, Form, form-of, commands, widths}
 use Rattle.rules.specs.Steps.{pass, refuse}
 use Rattle.rules.specs.Writing.{Instruction, form, operands-in, step-bytes, slots, operands-fit, check-step, in-bytes, operand-bytes, numbers}
 use Rattle.rules.proofs.Table.{same?, below?, clash}
-use Rattle.rules.proofs.Writing.{All, in-table, few-operands}
-use Rattle.forms.specs.Slots.{slot, operands, is-present, slot-limit, slot-width}
+use Rattle.rules.proofs.Writing.{All, in-table, few-operands, operand-bytes-length}
+use Rattle.forms.specs.declared.Kind.{Kind}
+use Rattle.forms.specs.declared.Kinds.{Kinds}
+use Rattle.forms.specs.Slots.{operand-of, slot, operands, Has, is-present, slot-limit, slot-width, value}
 
 -- ---- Numbers that are no command's
 
@@ -57,7 +59,7 @@ number-small c f e = below? 8 c (λ l. absurd (differs (sym (none-of c commands 
 
 -- ---- The operands of three slots
 
-abbrev three : ℕ → ℕ → ℕ → List ℕ
+abbrev pub three : ℕ → ℕ → ℕ → List ℕ
 three x y z = x ∷ y ∷ z ∷ []
 
 zero-below : (v : ℕ) → eqb v 0 ≡ ltb v 1
@@ -65,7 +67,7 @@ zero-below zero = refl
 zero-below (suc v) = ne-eqb (suc v) 0 (λ e. omega arith) ∙ sym (le-ltb (suc v) 1 (omega arith))
 
 module _ (n m x y z : ℕ) where
-  fits-by : (os : List Operand) → length os ≤ slots → operands-fit n m os (three x y z) ≡ ltb x (slot-limit n m (slot os 0)) && (ltb y (slot-limit n m (slot os 1)) && ltb z (slot-limit n m (slot os 2)))
+  pub fits-by : (os : List Operand) → length os ≤ slots → operands-fit n m os (three x y z) ≡ ltb x (slot-limit n m (slot os 0)) && (ltb y (slot-limit n m (slot os 1)) && ltb z (slot-limit n m (slot os 2)))
   fits-by [] l = rw (zero-below x, zero-below y, zero-below z, and-true)
   fits-by (a ∷ []) l = rw (zero-below y, zero-below z, and-true)
   fits-by (a ∷ b ∷ []) l = rw (zero-below z, and-true)
@@ -80,17 +82,14 @@ module _ (n m x y z : ℕ) where
   bytes-by (a ∷ b ∷ d ∷ []) l = simp append-nil
   bytes-by (a ∷ b ∷ d ∷ e ∷ os) l = absurd (omega arith)
 
-widths-by : (os : List Operand) → length os ≤ slots → widths os ≡ slot-width (slot os 0) + (slot-width (slot os 1) + slot-width (slot os 2))
+pub widths-by : (os : List Operand) → length os ≤ slots → widths os ≡ slot-width (slot os 0) + (slot-width (slot os 1) + slot-width (slot os 2))
 widths-by [] l = refl
 widths-by (a ∷ []) l = refl
 widths-by (a ∷ b ∷ []) l = refl
 widths-by (a ∷ b ∷ d ∷ []) l = omega arith
 widths-by (a ∷ b ∷ d ∷ e ∷ os) l = absurd (omega arith)
 
-abbrev pub value : ℕ → List ℕ → ℕ
-value w bs = big-endian (take w bs)
-
-numbers-by : (os : List Operand) (bs : List ℕ) → length os ≤ slots
+pub numbers-by : (os : List Operand) (bs : List ℕ) → length os ≤ slots
     → numbers os bs ≡ three (value (slot-width (slot os 0)) bs) (value (slot-width (slot os 1)) (drop (slot-width (slot os 0)) bs))
     (value (slot-width (slot os 2)) (drop (slot-width (slot os 1)) (drop (slot-width (slot os 0)) bs)))
 numbers-by [] bs l = refl
@@ -101,7 +100,7 @@ numbers-by (a ∷ b ∷ d ∷ e ∷ os) bs l = absurd (omega arith)
 
 -- ---- A step by its command number
 
-few : (c : ℕ) → length (operands c) ≤ slots
+pub few : (c : ℕ) → length (operands c) ≤ slots
 unfolding operands
 few c = by (form c) refl
   where
@@ -138,3 +137,41 @@ module _ (c x y z : ℕ) where
   pub step-bytes-by : step-bytes (step c x y z) ≡ c ∷ (in-bytes (slot-width (slot (operands c) 0)) x ++ (in-bytes (slot-width (slot (operands c) 1)) y ++ in-bytes (slot-width (slot (operands c) 2)) z))
   unfolding operands
   step-bytes-by = ap (λ (l : List ℕ). c ∷ l) (bytes-by 0 0 x y z (operands-in (form c)) (few c))
+
+-- ---- Sizes
+
+pub step-size : (c x y z : ℕ) → length (step-bytes (step c x y z)) ≡ 1 + widths (operands c)
+unfolding operands
+step-size c x y z = omega (arith, operand-bytes-length (operands-in (form c)) (three x y z))
+
+-- a slot's number has four bytes at most
+width-small : (o : Option Operand) → slot-width o ≤ 4
+width-small none = omega arith
+width-small (some save) = omega arith
+width-small (some sheet) = omega arith
+width-small (some node) = omega arith
+width-small (some content) = omega arith
+
+pub size-small : (c : ℕ) → 1 + widths (operands c) ≤ 13
+size-small c =
+    let os = operands c in
+    omega (arith, widths-by os (few c), width-small (slot os 0), width-small (slot os 1), width-small (slot os 2))
+
+pub record Widths (c : ℕ) (r : Kinds) : Type 0 where
+  pub first : slot-width (operand-of (r .first)) ≤ 4
+  pub second : slot-width (operand-of (r .second)) ≤ 4
+  pub third : slot-width (operand-of (r .third)) ≤ 4
+  pub sum : slot-width (operand-of (r .first)) + (slot-width (operand-of (r .second)) + slot-width (operand-of (r .third))) ≡ widths (operands c)
+
+pub has-widths : {c : ℕ} {r : Kinds} → Has c r → Widths c r
+has-widths {c} {r} h =
+    record {
+      first = width-small (operand-of (r .first));
+      second = width-small (operand-of (r .second));
+      third = width-small (operand-of (r .third));
+      sum = rw (h .first, h .second, h .third) (sym (widths-by (operands c) (few c)));
+    }
+
+-- a slot's width, by the kind that stands there
+pub width-is : {k : Kind} (o : Kind) → k ≡ o → slot-width (operand-of k) ≡ slot-width (operand-of o)
+width-is o e = ap (λ (k : Kind). slot-width (operand-of k)) e

@@ -4,7 +4,8 @@ use mathlib.Core.Path.{_≡_}
 use mathlib.Core.Bool.{Bool, true, false}
 use mathlib.Core.List.{List, [], _∷_}
 use mathlib.Core.Option.{Option, none, some}
-use Rattle.rules.specs.Bytes.{Operand, save, sheet, node, content, width, limit}
+use lib.ListN.{take}
+use Rattle.rules.specs.Bytes.{Operand, save, sheet, node, content, width, limit, big-endian}
 use Rattle.rules.specs.Writing.{form, operands-in}
 use Rattle.forms.specs.declared.Kind.{Kind}
 use Rattle.forms.specs.declared.Kind.the-variants.{Save, Sheet, Node, Content, Absent}
@@ -44,3 +45,7 @@ slot-limit n m (some o) = limit n m o
 abbrev pub slot-width : Option Operand → ℕ
 slot-width none = 0
 slot-width (some o) = width o
+
+-- the number in the first w bytes
+abbrev pub value : (w : ℕ) → List ℕ → ℕ
+value w bs = big-endian (take w bs)

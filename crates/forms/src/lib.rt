@@ -1,6 +1,8 @@
 // The table of commands by its operands: which stand at a command's three slots, what each is below, how many bytes each has.
 ghost use mathlib.Core.Path.{_≡_};
-ghost use Rattle.forms.specs.Slots.{operand-of, Has, slot-limit, slot-width, is-present};
+ghost use Prim.Native.Nat.{_+_};
+ghost use Rattle.rules.specs.Bytes.{widths};
+ghost use Rattle.forms.specs.Slots.{operand-of, Has, slot-limit, slot-width, is-present, operands};
 
 // What stands at a slot; Absent behind a command's last operand.
 pub enum Kind {
@@ -107,4 +109,15 @@ pub fn width(k: Kind) -> usize
         Kind::Content => 4,
         Kind::Absent => 0,
     }
+}
+
+// How many bytes a step of this command has.
+pub fn size(c: u32) -> usize
+    ensures { λ r. ⌜ r ≡ 1 + widths (operands c) ⌝ }
+{
+    let s = shape(c);
+    let j = s.first;
+    let k = s.second;
+    let l = s.third;
+    1 + (width(j) + (width(k) + width(l)))
 }

@@ -6,18 +6,16 @@ use mathlib.Core.List.{List, [], _∷_}
 use mathlib.Core.Option.{Option, none, some}
 use native.Mathlib.Omega.{arith}
 use lib.ListN.{length, getD, take, drop, length-drop}
-use Rattle.rules.specs.Sizes.{max-sheets}
 use Rattle.rules.specs.Bytes.{opens, byte, Front, whole, stopped}
 use Rattle.rules.specs.State.{State, fresh}
-use Rattle.rules.proofs.Table.{bool}
 use Rattle.rules.proofs.Sessions.{session-final}
 use Rattle.wire.specs.declared.Next.{Next}
 use Rattle.wire.specs.declared.Next.the-variants.{Step, Unknown, Cut, End}
 use Rattle.wire.specs.declared.Command as wire
-use Rattle.wire.specs.declared.Opened.the-variants.{Header, Bad}
-use Rattle.wire.specs.Meaning.{command-of, front-of, front-in, opened}
+use Rattle.wire.specs.Meaning.{command-of, front-of, front-in}
 use Rattle.wire.proofs.Front.{rest}
 use Rattle.wire.proofs.Header.{opens-has, owners-length}
+use Rattle.wire.proofs.Opening.{Opening}
 use Rattle.wire.proofs.Rest.{step-fits}
 use Rattle.state.specs.declared.Answer.{Answer}
 use Rattle.state.specs.declared.Answer.the-variants.{Accepted, Content, Took, Commits, SecondRun, Recommits, Refused}
@@ -40,34 +38,6 @@ use Rattle.session.specs.Carried.{Carried, Within}
 use Rattle.session.proofs.Loop as loop
 use Rattle.session.proofs.Ready.{known}
 use Rattle.session.proofs.Turn.{moved, stayed}
-
--- ---- The header
-
-pub record Opening (b : List ℕ) (nodes sheets : ℕ) : Type 0 where
-  pub opened-well : opens b ≡ true
-  pub nodes-are : nodes ≡ byte b 0
-  pub sheets-are : sheets ≡ byte b 1
-
-pub opening : (b : List ℕ) (nodes sheets : ℕ) → Header nodes sheets ≡ opened b → Opening b nodes sheets
-unfolding opened
-opening b nodes sheets e =
-    bool (opens b)
-    (λ o. let f : Header nodes sheets ≡ Header (byte b 0) (byte b 1) = rw o at e in record { opened-well = o; nodes-are = cc; sheets-are = cc })
-    (λ o. let f : Header nodes sheets ≡ Bad = rw o at e in absurd (let z : _≡_ {A = ℕ} 0 1 = cc in omega arith))
-
-module _ {b : List ℕ} {nodes sheets : ℕ} (o : Opening b nodes sheets) where
-  pub header-within : 2 + sheets ≤ length b
-  header-within = rw (o .sheets-are) (opens-has b (o .opened-well) .0 .fits)
-
-  pub few-sheets : sheets ≤ max-sheets
-  few-sheets = rw (o .sheets-are) (opens-has b (o .opened-well) .0 .sheets)
-
-  -- the owners, behind the two counts
-  pub owners-part : take (2 + sheets - 2) (drop 2 b) ≡ take sheets (drop 2 b)
-  owners-part = let e : 2 + sheets - 2 ≡ sheets = omega arith in rw e
-
-  pub owners-many : length (take (2 + sheets - 2) (drop 2 b)) ≡ sheets
-  owners-many = rw (owners-part, o .sheets-are) (owners-length b (o .opened-well))
 
 -- ---- The start
 

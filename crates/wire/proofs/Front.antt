@@ -30,7 +30,7 @@ first-byte (a ∷ l) = zero-add a
 pub second-byte : (l : List ℕ) → big-endian (take 1 (drop 1 l)) ≡ getD l 1 0
 second-byte l = first-byte (drop 1 l) ∙ getD-drop 1 l 0 0
 
-four-bytes : (l : List ℕ) → 4 ≤ length l → big-endian (take 4 l) ≡ contents (getD l 0 0) (getD l 1 0) (getD l 2 0) (getD l 3 0)
+pub four-bytes : (l : List ℕ) → 4 ≤ length l → big-endian (take 4 l) ≡ contents (getD l 0 0) (getD l 1 0) (getD l 2 0) (getD l 3 0)
 four-bytes (a ∷ b ∷ c ∷ d ∷ l) h = refl
 four-bytes (a ∷ b ∷ c ∷ []) h = absurd (omega arith)
 four-bytes (a ∷ b ∷ []) h = absurd (omega arith)

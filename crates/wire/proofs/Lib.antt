@@ -1,3 +1,4 @@
 pub mod Front
 pub mod Header
+pub mod Opening
 pub mod Rest

@@ -61,7 +61,7 @@ fn operands(b: u8) -> usize
 }
 
 // Four bytes, most significant first.
-fn content(a: u8, b: u8, c: u8, d: u8) -> u32
+pub fn content(a: u8, b: u8, c: u8, d: u8) -> u32
     ensures { λ r. ⌜ r ≡ contents a b c d ⌝ }
 {
     ((a as u32 * 256 + b as u32) * 256 + c as u32) * 256 + d as u32

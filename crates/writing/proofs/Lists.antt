@@ -8,11 +8,12 @@ use native.Mathlib.Numerals.{add-one}
 use native.Mathlib.Omega.{arith}
 use lib.ListN.{length, getD, drop, length-append, length-drop, drop-of-length-le}
 use lib.Seq.{drop-cons, getD-drop}
-use Rattle.rules.specs.Bytes.{Form}
+use Rattle.rules.specs.Bytes.{Form, widths}
 use Rattle.rules.specs.Steps.{Checked, pass, refuse}
 use Rattle.rules.specs.Writing.{Instruction, at, operands-fit, form, check-by, check-step, steps-refusal, step-bytes, steps-bytes, instructions}
 use Rattle.rules.proofs.Table.{bool}
-use Rattle.forms.proofs.Slots.{step}
+use Rattle.forms.specs.Slots.{operands}
+use Rattle.forms.proofs.Slots.{step, step-size}
 use Rattle.writing.specs.declared.Sized.the-variants.{Steps, Refused}
 use Rattle.writing.specs.Meaning.{number-of, Sizes}
 
@@ -73,13 +74,13 @@ passed-none n m ws = record { within = omega arith; few = omega arith; refusal =
 
 module _ {n m : ℕ} {ws : List ℕ} {i q t : ℕ} (p : Passed n m ws i q t) where
   module _ (l : i + 4 ≤ length ws) where
-    pub passed-next : (w t′ : ℕ) → 0 ≡ number-of (check-step n m (here ws i)) → w ≡ length (step-bytes (here ws i)) → t′ ≡ min (t + w) 16385 → Passed n m ws (i + 4) (q + 1) t′
+    pub passed-next : (w t′ : ℕ) → 0 ≡ number-of (check-step n m (here ws i)) → w ≡ 1 + widths (operands (getD ws i 0)) → t′ ≡ min (t + w) 16385 → Passed n m ws (i + 4) (q + 1) t′
     unfolding steps-refusal steps-bytes
     passed-next w t′ e s c =
         let rest = instructions (drop (i + 4) ws) in
         let x = next-step ws i l in
         let ok = zero-by n m (form (getD ws i 0)) (here ws i .operands) e in
-        let sum : length (steps-bytes (instructions (drop i ws))) ≡ w + length (steps-bytes rest) = ap (λ (is : List Instruction). length (steps-bytes is)) x ∙ length-append (step-bytes (here ws i)) (steps-bytes rest) ∙ rw s in
+        let sum : length (steps-bytes (instructions (drop i ws))) ≡ w + length (steps-bytes rest) = ap (λ (is : List Instruction). length (steps-bytes is)) x ∙ length-append (step-bytes (here ws i)) (steps-bytes rest) ∙ rw (step-size (getD ws i 0) (getD ws (i + 1) 0) (getD ws (i + 2) 0) (getD ws (i + 3) 0), s) in
         record {
           within = l;
           few = omega (arith, p .few);

@@ -45,10 +45,6 @@ pub absent-wrote : (l : List ℕ) (a : ℕ) (k : Kind) (v : ℕ) → k ≡ Absen
 unfolding in-bytes
 absent-wrote l a k v e = rw e (wrote-as refl (omega arith) (wrote-none l a))
 
--- a slot's width, by the kind that stands there
-pub width-is : {k : Kind} (o : Kind) → k ≡ o → slot-width (operand-of k) ≡ slot-width (operand-of o)
-width-is o e = ap (λ (k : Kind). slot-width (operand-of k)) e
-
 -- where a slot's number ends
 number-end : {l m : List ℕ} {a r : ℕ} (k : Kind) (v : ℕ) → Wrote l a (in-bytes (slot-width (operand-of k)) v) 4 r m → r ≡ a + slot-width (operand-of k)
 number-end k v p = p .ends ∙ rw in-bytes-length

@@ -1,20 +1,17 @@
 -- What one step earns and how many bytes it has, by the kinds at its slots.
 use Prim.Native.Nat.{ℕ, _+_, _≤_, _<_}
-use mathlib.Core.Path.{_≡_, sym, ap, _∙_}
+use mathlib.Core.Path.{_≡_}
 use mathlib.Core.Bool.{true, false, _&&_, cond}
 use mathlib.Core.List.{List}
-use mathlib.Core.Option.{Option, none, some}
 use native.Mathlib.Omega.{arith}
 use borrow.Author.Tests.{lt-ltb, le-ltb, ne-eqb}
 use lib.Dec.{ltb}
-use lib.ListN.{length, length-append}
-use Rattle.rules.specs.Bytes.{Operand, save, sheet, node, content}
+use lib.ListN.{length}
 use Rattle.rules.specs.Steps.{pass, refuse}
 use Rattle.rules.specs.Writing.{check-step, step-bytes}
-use Rattle.rules.proofs.Numbers.{in-bytes-length}
 use Rattle.forms.specs.declared.Kinds.{Kinds}
-use Rattle.forms.specs.Slots.{operand-of, slot, operands, Has, is-present, slot-limit, slot-width}
-use Rattle.forms.proofs.Slots.{step, check-unknown, check-known, step-bytes-by, unknown-number, present-form}
+use Rattle.forms.specs.Slots.{operand-of, operands, Has, is-present, slot-limit, slot-width}
+use Rattle.forms.proofs.Slots.{step, check-unknown, check-known, unknown-number, present-form, step-size, has-widths}
 use Rattle.writing.specs.Meaning.{number-of}
 
 module _ (n m c x y z : ℕ) (r : Kinds) (h : Has c r) where
@@ -52,28 +49,4 @@ module _ (n m c : ℕ) (vs : List ℕ) (r : Kinds) (h : Has c r) where
 -- ---- Its size
 
 pub size-by : (c x y z : ℕ) (r : Kinds) → Has c r → 1 + (slot-width (operand-of (r .first)) + (slot-width (operand-of (r .second)) + slot-width (operand-of (r .third)))) ≡ length (step-bytes (step c x y z))
-size-by c x y z r h =
-    sym (ap length (step-bytes-by c x y z)
-    ∙ rw (length-append, length-append, in-bytes-length, in-bytes-length, in-bytes-length, ← h .first, ← h .second, ← h .third) (omega arith))
-
--- a slot's number has four bytes at most
-width-small : (o : Option Operand) → slot-width o ≤ 4
-width-small none = omega arith
-width-small (some save) = omega arith
-width-small (some sheet) = omega arith
-width-small (some node) = omega arith
-width-small (some content) = omega arith
-
-pub step-short : (c x y z : ℕ) → length (step-bytes (step c x y z)) ≤ 13
-step-short c x y z =
-    let size : length (step-bytes (step c x y z)) ≡ 1 + (slot-width (slot (operands c) 0) + (slot-width (slot (operands c) 1) + slot-width (slot (operands c) 2)))
-    = ap length (step-bytes-by c x y z) ∙ rw (length-append, length-append, in-bytes-length, in-bytes-length, in-bytes-length) (omega arith) in
-    omega (arith, width-small (slot (operands c) 0), width-small (slot (operands c) 1), width-small (slot (operands c) 2))
-
-pub record Small (r : Kinds) : Type 0 where
-  pub first : slot-width (operand-of (r .first)) ≤ 4
-  pub second : slot-width (operand-of (r .second)) ≤ 4
-  pub third : slot-width (operand-of (r .third)) ≤ 4
-
-pub small : {c : ℕ} {r : Kinds} → Has c r → Small r
-small {c} {r} h = record { first = width-small (operand-of (r .first)); second = width-small (operand-of (r .second)); third = width-small (operand-of (r .third)) }
+size-by c x y z r h = omega (arith, has-widths h .sum, step-size c x y z)

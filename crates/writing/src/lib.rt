@@ -104,17 +104,6 @@ fn cut_refusal(c: u32) -> u8
     2
 }
 
-// How many bytes a step has.
-fn step_size(c: u32) -> usize
-    ensures { λ r. ⌜ ((x y z : ℕ) → r ≡ length (rules.step-bytes (step c x y z))) ⌝ }
-{
-    let s = forms::shape(c);
-    let j = s.first;
-    let k = s.second;
-    let l = s.third;
-    1 + (forms::width(j) + (forms::width(k) + forms::width(l)))
-}
-
 // A number of bytes as far as it matters: one more than a session may have stands for all above.
 fn capped(n: usize) -> usize
     ensures { λ r. ⌜ r ≡ min n 16385 ⌝ }
@@ -138,7 +127,7 @@ fn tested(nodes: u64, sheets: u64, steps: &[u32]) -> Sized
         if 0 < e {
             return Sized::Refused(q, e);
         }
-        t = capped(t + step_size(c));
+        t = capped(t + forms::size(c));
         i += 4;
         q += 1;
     }

@@ -1,7 +1,7 @@
 -- A session that does not open answers refusal 1, another by where its run stops.
 use mathlib.Core.Path.{sym, _∙_}
 use native.Mathlib.Omega.{arith}
-use Rattle.session.proofs.Needs.{opening}
+use Rattle.wire.proofs.Opening.{opening}
 use Rattle.cusphewa.proofs.Laws.{reply-bad, replies-last, replies-refused, near-last, stop-small}
 use Rattle.session.proofs.Lines.{offset-small}
 use borrow.Author.Needs.{needs}

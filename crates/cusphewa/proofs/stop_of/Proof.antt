@@ -1,7 +1,7 @@
 -- A session that does not open stops with refusal 1, another where its run stops.
 use mathlib.Core.Path.{sym, _∙_}
 use native.Mathlib.Omega.{arith}
-use Rattle.session.proofs.Needs.{opening}
+use Rattle.wire.proofs.Opening.{opening}
 use Rattle.cusphewa.proofs.Laws.{stop-bad, stops-at, near}
 use borrow.Author.Needs.{needs}
 use Rattle.cusphewa.proofs.stop_of.Statement.{statement}

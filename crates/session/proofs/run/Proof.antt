@@ -4,7 +4,8 @@ use native.Mathlib.Omega.{arith}
 use Rattle.rules.specs.Sizes.{max-sheets}
 use Rattle.state.specs.Parts.{all-of, byte-sizes, hint-sizes}
 use Rattle.state.proofs.Blank.{blank-zeros}
-use Rattle.session.proofs.Needs.{opening, header-within, few-sheets, owners-part, owners-many, begins}
+use Rattle.wire.proofs.Opening.{opening, header-within, few-sheets, owners-part, owners-many}
+use Rattle.session.proofs.Needs.{begins}
 use Rattle.session.proofs.Lines.{reported, stop-near, answered}
 use mathlib.Core.Path.{refl}
 use borrow.Author.Needs.{needs}

@@ -2,7 +2,8 @@
 use mathlib.Core.Path.{refl}
 use native.Mathlib.Omega.{arith}
 use Rattle.forms.specs.declared.Kind.the-variants.{Save, Sheet, Node, Content}
-use Rattle.writing.proofs.Putting.{number-wrote, content-wrote, absent-wrote, width-is}
+use Rattle.forms.proofs.Slots.{width-is}
+use Rattle.writing.proofs.Putting.{number-wrote, content-wrote, absent-wrote}
 use borrow.Author.Needs.{needs}
 use Rattle.writing.proofs.put_number.Statement.{statement}
 use Rattle.writing.proofs.put_number.Tie as tie

@@ -3,7 +3,7 @@ use Prim.Native.Nat.{ℕ, _-_}
 use mathlib.Core.Path.{_≡_, _∙_}
 use native.Mathlib.Omega.{arith}
 use lib.ListN.{length, getD}
-use Rattle.writing.proofs.Steps.{step-short}
+use Rattle.forms.proofs.Slots.{size-small}
 use Rattle.writing.proofs.Lists.{Passed, passed-none, passed-next, passed-refused, passed-cut, passed-all}
 use borrow.Author.Needs.{needs}
 use Rattle.writing.proofs.tested.Statement.{statement}
@@ -60,13 +60,13 @@ step-refusal-requires c κs = search needs
 returns : tie.Need-returns Inv-loop μ-loop
 returns c = passed-refused (c .before .before .before .before .before .before .before .loop .inv) (omega arith) _ (c .before .step-refusal .ensures) (c .if1 .taken)
 
-step-size-requires : tie.Need-step-size-requires Inv-loop μ-loop
-step-size-requires c κs = search needs
+size-requires : tie.Need-size-requires Inv-loop μ-loop
+size-requires c κs = search needs
 
 add-capped : tie.Need-add-capped Inv-loop μ-loop
 add-capped c =
     let l = c .before .before .before .before .before .before .before .before .loop in
-    omega (arith, c .step-size .ensures 0 0 0, step-short (getD (c .before .before .before .before .before .before .before .before .before .before .args .steps .now) (l .i) 0) 0 0 0)
+    omega (arith, c .size .ensures, size-small (getD (c .before .before .before .before .before .before .before .before .before .before .args .steps .now) (l .i) 0))
 
 capped-requires : tie.Need-capped-requires Inv-loop μ-loop
 capped-requires c κs = search needs
@@ -83,7 +83,7 @@ loop-less c = search needs
 loop-again : tie.Need-loop-again Inv-loop μ-loop
 loop-again c =
     let z : _≡_ {A = ℕ} 0 (c .before .before .before .step-refusal .result) = omega arith in
-    passed-next (c .before .before .before .before .before .before .before .before .before .loop .inv) (omega arith) _ _ (z ∙ c .before .before .before .step-refusal .ensures) (c .before .step-size .ensures _ _ _) (c .capped .ensures)
+    passed-next (c .before .before .before .before .before .before .before .before .before .loop .inv) (omega arith) _ _ (z ∙ c .before .before .before .step-refusal .ensures) (c .before .size .ensures) (c .capped .ensures)
 
 mul-cut-refusal : tie.Need-mul-cut-refusal Inv-loop μ-loop
 mul-cut-refusal c = search needs
@@ -121,7 +121,7 @@ tested-spec =
     shared-slice-read-step-refusal-3
     step-refusal-requires
     returns
-    step-size-requires
+    size-requires
     add-capped
     capped-requires
     add-i

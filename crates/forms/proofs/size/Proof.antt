@@ -1,9 +1,9 @@
 -- The command byte and what stands at the three slots.
 use native.Mathlib.Omega.{arith}
-use Rattle.writing.proofs.Steps.{small, size-by}
+use Rattle.forms.proofs.Slots.{has-widths}
 use borrow.Author.Needs.{needs}
-use Rattle.writing.proofs.step_size.Statement.{statement}
-use Rattle.writing.proofs.step_size.Tie as tie
+use Rattle.forms.proofs.size.Statement.{statement}
+use Rattle.forms.proofs.size.Tie as tie
 
 shape-requires : tie.Need-shape-requires
 shape-requires c κs = search needs
@@ -19,26 +19,26 @@ width-requires-3 c κs = search needs
 
 add-result : tie.Need-add-result
 add-result c =
-    let s = small (c .before .before .before .shape .ensures) in
+    let s = has-widths (c .before .before .before .shape .ensures) in
     omega arith
 
 add-result-2 : tie.Need-add-result-2
 add-result-2 c =
-    let s = small (c .before .before .before .shape .ensures) in
+    let s = has-widths (c .before .before .before .shape .ensures) in
     omega arith
 
 add-result-3 : tie.Need-add-result-3
 add-result-3 c =
-    let s = small (c .before .before .before .shape .ensures) in
+    let s = has-widths (c .before .before .before .shape .ensures) in
     omega arith
 
 returns : tie.Need-returns
-returns c x y z =
-    let h = c .before .before .before .shape .ensures in
-    rw (c .before .before .width .ensures, c .before .width2 .ensures, c .width3 .ensures) (size-by _ x y z _ h)
+returns c =
+    let s = has-widths (c .before .before .before .shape .ensures) in
+    omega arith
 
-pub step-size-spec : {M : Type 1} → statement M
-step-size-spec =
+pub size-spec : {M : Type 1} → statement M
+size-spec =
     tie.close
     (tie.spec
     shape-requires
