@@ -26,7 +26,9 @@ enum {
     CUSPHEWA_TAKE_INVALID = 4,  /* TAKE: the save is the value */
     CUSPHEWA_COMMITTED = 5,     /* DECIDE */
     CUSPHEWA_SECOND_RUN = 6,    /* DECIDE */
-    CUSPHEWA_REFUSED = 7        /* the offset is the value, the refusal the number */
+    CUSPHEWA_REFUSED = 7,       /* the offset is the value, the refusal the number */
+    CUSPHEWA_WRITTEN = 8,       /* cusphewa_write: the number of bytes is the value */
+    CUSPHEWA_LISTED = 9         /* cusphewa_read: the value is nodes * 2^32 + sheets * 2^16 + steps */
 };
 uint64_t cusphewa_answer(const uint8_t *session, size_t session_len);
 
@@ -45,11 +47,39 @@ enum {
     CUSPHEWA_NO_ENTRY = 11,         /* APPLY: the save has no entry at the node */
     CUSPHEWA_SHORT_BUFFER = 12,     /* cusphewa_report returns 0; no answer has it */
     CUSPHEWA_NEVER_BEGAN = 13,      /* any command but BEGIN on an unused save */
-    CUSPHEWA_IS_OVER = 14           /* any command but APPLY on a committed or dropped save */
+    CUSPHEWA_IS_OVER = 14,          /* any command but APPLY on a committed or dropped save */
+    CUSPHEWA_NO_ROOM = 15           /* cusphewa_write, cusphewa_read: the room lent is too short */
 };
 
 /* The part of the session that is shown, as offset * 2^32 + size. */
 uint64_t cusphewa_shown(const uint8_t *session, size_t session_len);
+
+/* Writing and reading a session. A step is CUSPHEWA_STEP_WORDS words: the command's number, which is its byte, then its operands in the
+   order of the table of commands; a word that the command has no operand for is 0. So WRITE 1 0 9 is { 3, 1, 0, 9 }, and APPLY 0 1 is
+   { 7, 0, 1, 0 }. Lengths of steps count words. Pointers and overlap as above. */
+#define CUSPHEWA_STEP_WORDS 4
+
+/* No session has more steps than this. */
+#define CUSPHEWA_MOST_STEPS 8190
+
+/* Writes the session of this header and these steps to the front of `session`: CUSPHEWA_WRITTEN with its length. Bytes beyond it stay as
+   they are. Otherwise CUSPHEWA_REFUSED, with the first of these, and nothing is written:
+     1   a bad header: nodes, sheets and owners not as in a session, or owners_len not sheets; the value is 0
+     2   an unknown command; the value is the step, from 0
+     4   a bad operand, or words that are no whole step; the value is the step
+     1   over 16,384 bytes; the value is the number of steps
+     15  `session` is too short; the value is the number of bytes that it needs
+   A value above 4,294,967,295 is told as that number. */
+uint64_t cusphewa_write(size_t nodes, size_t sheets, const uint8_t *owners, size_t owners_len, const uint32_t *steps, size_t steps_len,
+                        uint8_t *session, size_t session_len);
+
+/* Reads the header and all steps, also those behind a stop: CUSPHEWA_LISTED with the counts, and the steps at the front of `steps`. Words
+   beyond them stay as they are. Otherwise CUSPHEWA_REFUSED, with the first of 1 to 4 that the bytes earn and its offset, then with
+   15 and the number of steps where `steps` is too short, and nothing is written. */
+uint64_t cusphewa_read(const uint8_t *session, size_t session_len, uint32_t *steps, size_t steps_len);
+
+/* The owners, a byte for each sheet, are a part of the session: offset * 2^32 + size. 0 where the session earns 1. */
+uint64_t cusphewa_owners(const uint8_t *session, size_t session_len);
 
 #ifdef __cplusplus
 }

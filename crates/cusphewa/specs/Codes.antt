@@ -1,8 +1,10 @@
 -- Answers and parts as numbers, for the host.
-use Prim.Native.Nat.{ℕ, _+_, _*_, _≤_}
+use Prim.Native.Nat.{ℕ, _+_, _*_, _≤_, min}
+use mathlib.Core.List.{List}
 use Rattle.rules.specs.Steps.{Verdict, valid, invalid, accepted, content-is, took, commits, second-run}
 use Rattle.rules.specs.Calls as calls
 use Rattle.rules.specs.Calls.{no-command, answers, refusal, Part}
+use Rattle.rules.specs.Writing as lists
 use Rattle.session.specs.declared.Stop.{Stop}
 use Rattle.session.specs.declared.Stop.the-variants.{End, Refused}
 use Rattle.session.specs.declared.Reply.{Reply}
@@ -28,6 +30,22 @@ answer-code (refusal p n) = coded 7 p n
 -- offset * 2^32 + size
 abbrev pub part-code : Part → ℕ
 part-code p = p .from * 4294967296 + p .size
+
+-- ---- Writing and reading
+
+-- a place above 4,294,967,295 is told as that number
+abbrev pub outcome-code : lists.Outcome → ℕ
+outcome-code (lists.wrote size) = coded 8 size 0
+outcome-code (lists.listed n m q) = coded 9 (n * 4294967296 + m * 65536 + q) 0
+outcome-code (lists.refuse-with r) = coded 7 (min (r .place) 4294967295) (r .number)
+
+pub record Told : Type 0 where
+  pub code : ℕ
+  pub room : List ℕ
+
+-- a call as the host sees it
+abbrev pub told-call : lists.Call → Told
+told-call c = record { code = outcome-code (c .outcome); room = c .room }
 
 -- ---- Sizes that fit the numbers
 

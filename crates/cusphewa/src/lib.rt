@@ -1,22 +1,26 @@
-// The calls on a session: its report, its answer, the part that is shown.
+// The calls on a session: its report, its answer, the part that is shown; writing a session and reading it back.
+use listing::Listed;
 use session::Ended;
 use session::MIN_BUFFER;
 use session::Reply;
 use session::Stop;
 use state::Verdict;
 use wire::Opened;
+use writing::Written;
 ghost use mathlib.Core.Path.{_≡_};
-ghost use Prim.Native.Nat.{_<_, _≤_};
+ghost use Prim.Native.Nat.{_<_, _≤_, min};
 ghost use lib.ListN.{length};
 ghost use Rattle.rules.specs.Demand3.{SessionDemand3};
 ghost use Rattle.rules.specs.Calls as calls;
 ghost use Rattle.rules.specs.Report as rules;
+ghost use Rattle.rules.specs.Writing as lists;
 ghost use Rattle.wire.specs.Meaning.{opened};
 ghost use Rattle.wire.specs.declared.Opened.the-variants.{Header};
 ghost use Rattle.session.specs.Meaning.{stop-of, reply-of};
 ghost use Rattle.session.specs.Carried.{Within, Answered};
 ghost use Rattle.state.specs.View.{verdict-of};
-ghost use Rattle.cusphewa.specs.Codes.{coded, verdict-code, answer-code, part-code, Near, NearReply};
+ghost use Rattle.cusphewa.specs.Codes.{coded, verdict-code, answer-code, part-code, told-call, Near, NearReply};
+ghost use Rattle.writing.specs.Meaning.{heading-of};
 
 // ---- The report
 
@@ -107,7 +111,7 @@ pub fn shown(session: &[u8]) -> &[u8]
 
 // A kind, a value and a number in one.
 fn code(kind: u64, value: u64, number: u8) -> u64
-    requires { ⌜ (kind < 8) × (value < 4294967296) ⌝ }
+    requires { ⌜ (kind < 16) × (value < 1099511627776) ⌝ }
     ensures { λ r. ⌜ r ≡ coded kind value number ⌝ }
 {
     kind * 281474976710656 + value * 256 + number as u64
@@ -149,5 +153,67 @@ pub extern "C" fn cusphewa_shown(session: &[u8]) -> u64
     match stop {
         Stop::End => session.len() as u64 * 4294967296,
         Stop::Refused(p, _, k) => p as u64 * 4294967296 + k as u64,
+    }
+}
+
+// ---- Writing and reading
+
+// A place as far as a code holds it: all above the last stand for it.
+fn place(p: usize) -> u64
+    ensures { λ r. ⌜ r ≡ min p 4294967295 ⌝ }
+{
+    if 4294967295 < p {
+        return 4294967295;
+    }
+    p as u64
+}
+
+// Writes the session of a header and a list of steps in words, four to a step: how many bytes it has, or a refusal, which writes nothing.
+#[no_mangle]
+pub extern "C" fn cusphewa_write(
+    nodes: usize,
+    sheets: usize,
+    owners: &[u8],
+    steps: &[u32],
+    session: &mut [u8],
+) -> u64
+    ensures { λ r. ⌜
+        record { code = r; room = now (session .exit) }
+        ≡ told-call (lists.write-call (heading-of nodes sheets (now (owners .entry))) (lists.instructions (now (steps .entry))) (now (session .entry)))
+        ⌝ }
+    ensures read_again { λ _. ⌜ lists.WrittenRead (heading-of nodes sheets (now (owners .entry))) (lists.instructions (now (steps .entry))) ⌝ }
+    ensures one_writing { λ _. ⌜ lists.OneWriting (heading-of nodes sheets (now (owners .entry))) (lists.instructions (now (steps .entry))) ⌝ }
+    ensures one_list { λ _. ⌜ lists.OneList (heading-of nodes sheets (now (owners .entry))) (lists.instructions (now (steps .entry))) ⌝ }
+{
+    let written = writing::write(nodes, sheets, owners, steps, session);
+    match written {
+        Written::Bytes(n) => code(8, n as u64, 0),
+        Written::Refused(p, n) => code(7, place(p), n),
+    }
+}
+
+// Reads a session's header and all its steps, in words: how many there are, or a refusal, which writes nothing.
+#[no_mangle]
+pub extern "C" fn cusphewa_read(session: &[u8], steps: &mut [u32]) -> u64
+    ensures { λ r. ⌜ record { code = r; room = now (steps .exit) } ≡ told-call (lists.read-call (now (session .entry)) (now (steps .entry))) ⌝ }
+    ensures written_again { λ _. ⌜ lists.ReadWritten (now (session .entry)) ⌝ }
+    ensures run { λ _. ⌜ lists.ReadRun (now (session .entry)) ⌝ }
+{
+    let read = listing::read(session, steps);
+    match read {
+        Listed::Steps(n, m, q) => code(9, n as u64 * 4294967296 + m as u64 * 65536 + q as u64, 0),
+        Listed::Refused(p, n) => code(7, place(p), n),
+    }
+}
+
+// Where a session's owners stand, for the host: offset and size in one.
+#[no_mangle]
+pub extern "C" fn cusphewa_owners(session: &[u8]) -> u64
+    ensures { λ r. ⌜ r ≡ part-code (lists.owners-part (now (session .entry))) ⌝ }
+{
+    let header = wire::read_header(session);
+    match header {
+        Opened::Bad => 0,
+        Opened::Header(_, sheets) => 2 * 4294967296 + sheets as u64,
     }
 }

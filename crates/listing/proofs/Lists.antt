@@ -109,3 +109,6 @@ module _ {n m : ℕ} {b : List ℕ} {start p q : ℕ} (s : Passed n m b start p 
 
   pub passed-all : length b ≤ p → Counts (from n m start b) (Steps q)
   passed-all l = (s .so-far, (passed-whole l, sym (s .count)))
+
+  pub passed-few : q ≤ length b
+  passed-few = omega (arith, s .few, s .within)

@@ -6,18 +6,20 @@ use mathlib.Core.List.{List, [], _∷_, _++_}
 use native.Mathlib.Omega.{arith}
 use borrow.Author.Tests.{lt-ltb, le-ltb, eqb-true}
 use lib.Dec.{eqb}
-use lib.ListN.{length, take, drop, length-append}
+use lib.ListN.{length, drop, length-append}
+use Rattle.rules.specs.Sizes.{max-session}
 use Rattle.rules.specs.Bytes.{opens, widths}
 use Rattle.rules.specs.Report.{Filled}
-use Rattle.rules.specs.Writing.{Instruction, slots, at, form, below-limits, numbers, heading, steps, list-from, listed-by, Listed, session, read, words, refuse-with, listed, Call, read-into, read-call, owners-if}
+use Rattle.rules.specs.Writing.{Instruction, slots, at, form, below-limits, numbers, heading, steps, list-from, listed-by, Listed, session, read, words, refuse-with, listed, Call, read-into, read-call}
 use Rattle.rules.proofs.Table.{and-l}
 use Rattle.rules.proofs.Writing.{list-inverts}
-use Rattle.wire.proofs.Opening.{Opening, owners-part}
+use Rattle.wire.proofs.Header.{opens-has}
+use Rattle.wire.proofs.Opening.{Opening}
 use Rattle.text.specs.Wrote.{Wrote}
 use Rattle.text.proofs.Writing.{wrote-front}
 use Rattle.listing.specs.declared.Counted.{Counted}
 use Rattle.listing.specs.declared.Counted.the-variants.{Steps, Refused}
-use Rattle.listing.specs.Meaning.{from, Counts, Fits, Stored}
+use Rattle.listing.specs.Meaning.{from, Counts, Fits, Stored, Few}
 
 -- ---- Lists that are read
 
@@ -95,10 +97,6 @@ module _ (b room : List ℕ) where
           let long : length (words is) ≤ length room = omega (arith, four) in
           sym (into ∙ rw (le-ltb (length room) (length (words is)) long, ← counted .1 .1, ← text, ← o .nodes-are, ← o .sheets-are))
 
--- ---- The owners
-
-pub no-owners : (b : List ℕ) → opens b ≡ false → [] ≡ owners-if (opens b) b
-no-owners b e = rw e
-
-pub owners-are : (b : List ℕ) (n m : ℕ) (o : Opening b n m) → take (2 + m - 2) (drop 2 b) ≡ owners-if (opens b) b
-owners-are b n m o = owners-part o ∙ rw (o .opened-well, o .sheets-are)
+-- no more steps than a session has bytes
+pub few-steps : (b : List ℕ) (n m : ℕ) → Opening b n m → (r : Counted) (q : ℕ) → Few (length b) r → r ≡ Steps q → q ≤ max-session
+few-steps b n m o r q f e = let l : q ≤ length b = rw e at f in omega (arith, opens-has b (o .opened-well) .0 .size)

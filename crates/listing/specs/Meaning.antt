@@ -6,6 +6,7 @@ use mathlib.Core.List.{List, [], _∷_}
 use mathlib.Core.Option.{Option, none, some}
 use lib.ListN.{length, getD, drop}
 use lib.Dec.{ltb}
+use Rattle.rules.specs.Sizes.{max-session}
 use Rattle.rules.specs.Bytes.{Form, widths}
 use Rattle.rules.specs.Writing as rules
 use Rattle.forms.specs.Slots.{operands}
@@ -51,3 +52,12 @@ Stored p b before end after =
 abbrev pub outcome-of : Listed → rules.Outcome
 outcome-of (listed.Steps n m q) = rules.listed n m q
 outcome-of (listed.Refused p e) = rules.refuse-with (rules.at p e)
+
+-- no more steps than bytes
+abbrev pub Few : (bytes : ℕ) → Counted → Type 0
+Few n (Steps q) = q ≤ n
+Few n (Refused p e) = Unit {0}
+
+abbrev pub Small : Listed → Type 0
+Small (listed.Steps n m q) = q ≤ max-session
+Small (listed.Refused p e) = Unit {0}

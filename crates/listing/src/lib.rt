@@ -4,13 +4,13 @@ use wire::Opened;
 ghost use mathlib.Core.Path.{_≡_};
 ghost use Prim.Native.Nat.{_+_, _<_, _≤_};
 ghost use lib.ListN.{length, getD, drop};
-ghost use Rattle.rules.specs.Bytes.{widths, opens};
+ghost use Rattle.rules.specs.Bytes.{widths};
 ghost use Rattle.rules.specs.Writing as rules;
 ghost use Rattle.forms.specs.Slots.{operand-of, slot-width, operands, value};
 ghost use mathlib.Core.List.{[], _∷_};
 ghost use Rattle.forms.proofs.Slots.{step};
 ghost use Rattle.text.specs.Wrote.{Wrote};
-ghost use Rattle.listing.specs.Meaning.{earned, step-at, from, Counts, Fits, Stored, outcome-of};
+ghost use Rattle.listing.specs.Meaning.{earned, step-at, from, Counts, Fits, Stored, outcome-of, Few, Small};
 
 // Node count, sheet count and how many steps were read, or a refusal with its place.
 pub enum Listed {
@@ -78,6 +78,7 @@ fn step_refusal(session: &[u8], at: usize, nodes: u64, sheets: u64) -> u8
 fn tested(session: &[u8], start: usize, nodes: u64, sheets: u64) -> Counted
     requires { ⌜ start ≤ length (now session) ⌝ }
     ensures { λ r. ⌜ Counts (from nodes sheets start (now (session .entry))) r ⌝ }
+    ensures few { λ r. ⌜ Few (length (now (session .entry))) r ⌝ }
 {
     let mut at = start;
     let mut q: usize = 0;
@@ -143,11 +144,12 @@ fn put_steps(steps: &mut [u32], session: &[u8], start: usize) -> usize
     i
 }
 
-// ---- The calls
+// ---- The call
 
 // Reads a session's steps to the front of the room, or refuses and writes nothing.
 pub fn read(session: &[u8], steps: &mut [u32]) -> Listed
     ensures { λ r. ⌜ record { outcome = outcome-of r; room = now (steps .exit) } ≡ rules.read-call (now (session .entry)) (now (steps .entry)) ⌝ }
+    ensures small { λ r. ⌜ Small r ⌝ }
 {
     let header = wire::read_header(session);
     match header {
@@ -165,20 +167,6 @@ pub fn read(session: &[u8], steps: &mut [u32]) -> Listed
                     Listed::Steps(nodes, sheets, q)
                 }
             }
-        }
-    }
-}
-
-// The owners, a part of the session; empty where it earns 1.
-pub fn owners(session: &[u8]) -> &[u8]
-    ensures { λ r. ⌜ now r ≡ rules.owners-if (opens (now (session .entry))) (now (session .entry)) ⌝ }
-{
-    let header = wire::read_header(session);
-    match header {
-        Opened::Bad => &session[..0],
-        Opened::Header(_, sheets) => {
-            let e = 2 + sheets as usize;
-            &session[2..e]
         }
     }
 }

@@ -6,7 +6,7 @@ pub mod Steps
 pub mod WhichPhase
 pub mod Serial
 pub mod Demand3
-pub mod Writing
 pub mod Calls
+pub mod Writing
 pub mod Report
 pub mod Cases

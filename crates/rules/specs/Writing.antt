@@ -10,6 +10,7 @@ use Rattle.rules.specs.Sizes.{max-session}
 use Rattle.rules.specs.Bytes.{Header, byte, header, header-size, in-range, opens, Operand, width, limit, Command, Form, commands, form-of, widths, values}
 use Rattle.rules.specs.Steps.{Checked, pass, refuse}
 use Rattle.rules.specs.Demand3.{session-commands}
+use Rattle.rules.specs.Calls.{Part}
 
 -- ---- What is handed over
 
@@ -262,7 +263,10 @@ read-into (refuses r) room = record { outcome = refuse-with r; room = room }
 unfoldable pub read-call : (session room : List ℕ) → Call
 read-call b room = read-into (read b) room
 
--- the owners: a part of the session, empty where it earns 1
-abbrev pub owners-if : (opens : Bool) → List ℕ → List ℕ
-owners-if true b = heading b .owners
-owners-if false b = []
+-- where the owners stand: behind the two counts; nowhere where the session earns 1
+abbrev pub owners-if : (opens : Bool) → List ℕ → Part
+owners-if true b = record { from = 2; size = byte b 1 }
+owners-if false b = record { from = 0; size = 0 }
+
+unfoldable pub owners-part : List ℕ → Part
+owners-part b = owners-if (opens b) b

@@ -95,3 +95,6 @@ module _ (n m : ℕ) (o ws room : List ℕ) where
             let text : k ≡ whole n m o ws ++ drop (length (whole n m o ws)) room = ap (λ (x : Filled). x .buffer) e in
             let long : length (whole n m o ws) ≤ length room = fits-room l in
             sym (into ∙ rw (le-ltb (length room) (length (whole n m o ws)) long) (λ i. record { outcome = wrote (sym size i); room = sym text i }))
+
+        pub written-small : {k : List ℕ} {u : ℕ} → Wrote room 0 (whole n m o ws) (2 + (length o + length (steps-of ws))) u k → u ≤ 16384
+        written-small w = omega (arith, w .ends, size-of h)

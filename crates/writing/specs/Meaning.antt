@@ -1,9 +1,10 @@
 -- What the writer's types and numbers mean in the rules.
-use Prim.Native.Nat.{ℕ, min}
+use Prim.Native.Nat.{ℕ, min, _≤_}
 use mathlib.Core.Path.{_≡_}
 use mathlib.Core.List.{List}
 use mathlib.Core.Option.{none, some}
 use lib.ListN.{length}
+use Rattle.rules.specs.Sizes.{max-session}
 use Rattle.rules.specs.Steps.{Checked, pass, refuse}
 use Rattle.rules.specs.Writing as rules
 use Rattle.writing.specs.declared.Written.{Written}
@@ -35,3 +36,8 @@ Passes ws = (n : ℕ) × ((m : ℕ) × (rules.steps-refusal n m 0 (rules.instruc
 abbrev pub outcome-of : Written → rules.Outcome
 outcome-of (written.Bytes n) = rules.wrote n
 outcome-of (written.Refused p e) = rules.refuse-with (rules.at p e)
+
+-- no more bytes than a session may have
+abbrev pub Small : Written → Type 0
+Small (written.Bytes n) = n ≤ max-session
+Small (written.Refused p e) = Unit {0}

@@ -11,7 +11,7 @@ ghost use Rattle.rules.specs.Writing as rules;
 ghost use Rattle.forms.specs.Slots.{operand-of, slot-width};
 ghost use Rattle.forms.proofs.Slots.{step};
 ghost use Rattle.text.specs.Wrote.{Wrote};
-ghost use Rattle.writing.specs.Meaning.{heading-of, number-of, Sizes, steps-of, Passes, outcome-of};
+ghost use Rattle.writing.specs.Meaning.{heading-of, number-of, Sizes, steps-of, Passes, outcome-of, Small};
 
 const MAX_SESSION: usize = 16384;
 
@@ -251,6 +251,7 @@ pub fn write(
         record { outcome = outcome-of r; room = now (session .exit) }
         ≡ rules.write-call (heading-of nodes sheets (now (owners .entry))) (rules.instructions (now (steps .entry))) (now (session .entry))
         ⌝ }
+    ensures small { λ r. ⌜ Small r ⌝ }
 {
     if !heading_fits(nodes, sheets, owners) {
         return Written::Refused(0, 1);

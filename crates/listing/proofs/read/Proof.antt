@@ -2,7 +2,7 @@
 use mathlib.Core.Path.{sym, _∙_}
 use native.Mathlib.Omega.{arith}
 use Rattle.wire.proofs.Opening.{opening, header-within, unopened}
-use Rattle.listing.proofs.Whole.{header-refused, step-refused, no-room, fits, stored}
+use Rattle.listing.proofs.Whole.{header-refused, step-refused, no-room, fits, stored, few-steps}
 use borrow.Author.Needs.{needs}
 use Rattle.listing.proofs.read.Statement.{statement}
 use Rattle.listing.proofs.read.Tie as tie
@@ -40,25 +40,25 @@ enum-known-c-2 : tie.Need-enum-known-c-2
 enum-known-c-2 c = search needs
 
 returns : tie.Need-returns
-returns c = no-room _ _ _ _ (opening _ _ _ (sym (c .before .before .before .before .before .before .header .given .1) ∙ c .before .before .before .before .before .before .before .before .read-header .ensures)) _ _ (c .before .before .before .before .tested .ensures) (c .before .before .c2 .given .1) (c .if1 .taken)
+returns c = (no-room _ _ _ _ (opening _ _ _ (sym (c .before .before .before .before .before .before .header .given .1) ∙ c .before .before .before .before .before .before .before .before .read-header .ensures)) _ _ (c .before .before .before .before .tested .ensures .0) (c .before .before .c2 .given .1) (c .if1 .taken), tt)
 
 put-steps-requires : tie.Need-put-steps-requires
 put-steps-requires c κs =
     let a = c .before .before .before .before .before .before .before .before .before .before .before .before .args in
     let o = (opening _ _ _ (sym (c .before .before .before .before .before .before .before .header .given .1) ∙ c .before .before .before .before .before .before .before .before .before .read-header .ensures)) in
-    (header-within o, fits (a .session .now) (a .steps .now) _ _ o _ _ (c .before .before .before .before .before .tested .ensures) (c .before .before .before .c2 .given .1) (omega arith))
+    (header-within o, fits (a .session .now) (a .steps .now) _ _ o _ _ (c .before .before .before .before .before .tested .ensures .0) (c .before .before .before .c2 .given .1) (omega arith))
 
 returns-2 : tie.Need-returns-2
-returns-2 c = header-refused _ _ (unopened _ (sym (c .enum-told .given .1) ∙ c .before .before .read-header .ensures))
+returns-2 c = (header-refused _ _ (unopened _ (sym (c .enum-told .given .1) ∙ c .before .before .read-header .ensures)), tt)
 
 returns-3 : tie.Need-returns-3
-returns-3 c = step-refused _ _ _ _ (opening _ _ _ (sym (c .before .before .before .before .before .header .given .1) ∙ c .before .before .before .before .before .before .before .read-header .ensures)) _ _ _ (c .before .before .before .tested .ensures) (c .before .c .given .1)
+returns-3 c = (step-refused _ _ _ _ (opening _ _ _ (sym (c .before .before .before .before .before .header .given .1) ∙ c .before .before .before .before .before .before .before .read-header .ensures)) _ _ _ (c .before .before .before .tested .ensures .0) (c .before .c .given .1), tt)
 
 same-length : tie.Need-same-length
 same-length c = search needs
 
 returns-4 : tie.Need-returns-4
-returns-4 c = stored _ _ _ _ (opening _ _ _ (sym (c .before .before .before .before .before .before .before .before .before .before .header .given .1) ∙ c .before .before .before .before .before .before .before .before .before .before .before .before .read-header .ensures)) _ _ (c .before .before .before .before .before .before .before .before .tested .ensures) (c .before .before .before .before .before .before .c2 .given .1) (omega arith) (c .before .before .put-steps .ensures)
+returns-4 c = (stored _ _ _ _ (opening _ _ _ (sym (c .before .before .before .before .before .before .before .before .before .before .header .given .1) ∙ c .before .before .before .before .before .before .before .before .before .before .before .before .read-header .ensures)) _ _ (c .before .before .before .before .before .before .before .before .tested .ensures .0) (c .before .before .before .before .before .before .c2 .given .1) (omega arith) (c .before .before .put-steps .ensures), few-steps _ _ _ (opening _ _ _ (sym (c .before .before .before .before .before .before .before .before .before .before .header .given .1) ∙ c .before .before .before .before .before .before .before .before .before .before .before .before .read-header .ensures)) _ _ (c .before .before .before .before .before .before .before .before .tested .ensures .1) (c .before .before .before .before .before .before .c2 .given .1))
 
 pub read-spec : {M : Type 1} → statement M
 read-spec =

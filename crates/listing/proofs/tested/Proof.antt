@@ -3,7 +3,7 @@ use Prim.Native.Nat.{ℕ, _-_}
 use mathlib.Core.Path.{_≡_, _∙_}
 use native.Mathlib.Omega.{arith}
 use lib.ListN.{length}
-use Rattle.listing.proofs.Lists.{Passed, passed-none, passed-next, passed-refused, passed-all, next-fits}
+use Rattle.listing.proofs.Lists.{Passed, passed-none, passed-next, passed-refused, passed-all, passed-few, next-fits}
 use borrow.Author.Needs.{needs}
 use Rattle.listing.proofs.tested.Statement.{statement}
 use Rattle.listing.proofs.tested.Tie as tie
@@ -21,7 +21,7 @@ step-refusal-requires : tie.Need-step-refusal-requires Inv-loop μ-loop
 step-refusal-requires c κs = search needs
 
 returns : tie.Need-returns Inv-loop μ-loop
-returns c = passed-refused (c .before .before .before .loop .inv) (c .before .before .loop-test .taken) _ (c .before .step-refusal .ensures) (c .if1 .taken)
+returns c = (passed-refused (c .before .before .before .loop .inv) (c .before .before .loop-test .taken) _ (c .before .step-refusal .ensures) (c .if1 .taken), tt)
 
 shared-slice-read-size : tie.Need-shared-slice-read-size Inv-loop μ-loop
 shared-slice-read-size c = search needs
@@ -52,7 +52,7 @@ loop-again c =
     passed-next (c .before .before .before .before .before .loop .inv) (c .before .before .before .before .loop-test .taken) _ (z ∙ c .before .before .before .step-refusal .ensures) (c .size .ensures)
 
 returns-2 : tie.Need-returns-2 Inv-loop μ-loop
-returns-2 c = passed-all (c .before .loop .inv) (omega arith)
+returns-2 c = (passed-all (c .before .loop .inv) (omega arith), passed-few (c .before .loop .inv))
 
 pub tested-spec : {M : Type 1} → statement M
 tested-spec =

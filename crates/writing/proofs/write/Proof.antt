@@ -3,7 +3,7 @@ use mathlib.Core.Path.{sym, _∙_}
 use native.Mathlib.Omega.{arith}
 use borrow.Author.Tests.{not-true, not-false}
 use Rattle.writing.proofs.Headings.{fits-has}
-use Rattle.writing.proofs.Whole.{heading-refused, step-refused, passes, total-small, too-long, no-room, fits-room, written}
+use Rattle.writing.proofs.Whole.{heading-refused, step-refused, passes, total-small, too-long, no-room, fits-room, written, written-small}
 use borrow.Author.Needs.{needs}
 use Rattle.writing.proofs.write.Statement.{statement}
 use Rattle.writing.proofs.write.Tie as tie
@@ -14,7 +14,7 @@ heading-fits-requires c κs = search needs
 returns : tie.Need-returns
 returns c =
     let a = c .before .before .before .before .before .args in
-    heading-refused (a .nodes) (a .sheets) (a .owners .now) (a .steps .now) (a .session .now) (sym (c .before .heading-fits .ensures) ∙ not-true _ (c .if1 .taken))
+    (heading-refused (a .nodes) (a .sheets) (a .owners .now) (a .steps .now) (a .session .now) (sym (c .before .heading-fits .ensures) ∙ not-true _ (c .if1 .taken)), tt)
 
 tested-requires : tie.Need-tested-requires
 tested-requires c κs = search needs
@@ -44,12 +44,12 @@ add-size-2 c =
 returns-2 : tie.Need-returns-2
 returns-2 c =
     let a = c .before .before .before .before .before .before .before .before .before .before .args in
-    too-long (a .nodes) (a .sheets) (a .owners .now) (a .steps .now) (a .session .now) (sym (c .before .before .before .before .before .before .heading-fits .ensures) ∙ not-false _ (c .before .before .before .before .before .if1 .left)) _ _ _ (c .before .before .before .before .tested .ensures) (c .before .before .sizes2 .given .1) (c .if2 .taken)
+    (too-long (a .nodes) (a .sheets) (a .owners .now) (a .steps .now) (a .session .now) (sym (c .before .before .before .before .before .before .heading-fits .ensures) ∙ not-false _ (c .before .before .before .before .before .if1 .left)) _ _ _ (c .before .before .before .before .tested .ensures) (c .before .before .sizes2 .given .1) (c .if2 .taken), tt)
 
 returns-3 : tie.Need-returns-3
 returns-3 c =
     let a = c .before .before .before .before .before .before .before .before .before .before .before .args in
-    no-room (a .nodes) (a .sheets) (a .owners .now) (a .steps .now) (a .session .now) (sym (c .before .before .before .before .before .before .before .heading-fits .ensures) ∙ not-false _ (c .before .before .before .before .before .before .if1 .left)) _ _ _ (c .before .before .before .before .before .tested .ensures) (c .before .before .before .sizes2 .given .1) (c .before .if2 .left) (c .if3 .taken)
+    (no-room (a .nodes) (a .sheets) (a .owners .now) (a .steps .now) (a .session .now) (sym (c .before .before .before .before .before .before .before .heading-fits .ensures) ∙ not-false _ (c .before .before .before .before .before .before .if1 .left)) _ _ _ (c .before .before .before .before .before .tested .ensures) (c .before .before .before .sizes2 .given .1) (c .before .if2 .left) (c .if3 .taken), tt)
 
 put-session-requires : tie.Need-put-session-requires
 put-session-requires c κs =
@@ -63,7 +63,7 @@ put-session-requires c κs =
 returns-4 : tie.Need-returns-4
 returns-4 c =
     let a = c .before .before .before .before .before .before .before .before .before .args in
-    step-refused (a .nodes) (a .sheets) (a .owners .now) (a .steps .now) (a .session .now) (sym (c .before .before .before .before .before .heading-fits .ensures) ∙ not-false _ (c .before .before .before .before .if1 .left)) _ _ _ (c .before .before .before .tested .ensures) (c .before .sizes .given .1)
+    (step-refused (a .nodes) (a .sheets) (a .owners .now) (a .steps .now) (a .session .now) (sym (c .before .before .before .before .before .heading-fits .ensures) ∙ not-false _ (c .before .before .before .before .if1 .left)) _ _ _ (c .before .before .before .tested .ensures) (c .before .sizes .given .1), tt)
 
 same-length : tie.Need-same-length
 same-length c = search needs
@@ -71,7 +71,7 @@ same-length c = search needs
 returns-5 : tie.Need-returns-5
 returns-5 c =
     let a = c .before .before .before .before .before .before .before .before .before .before .before .before .before .before .before .args in
-    written (a .nodes) (a .sheets) (a .owners .now) (a .steps .now) (a .session .now) (sym (c .before .before .before .before .before .before .before .before .before .before .before .heading-fits .ensures) ∙ not-false _ (c .before .before .before .before .before .before .before .before .before .before .if1 .left)) _ _ _ (c .before .before .before .before .before .before .before .before .before .tested .ensures) (c .before .before .before .before .before .before .before .sizes2 .given .1) (c .before .before .before .before .before .if2 .left) (c .before .before .before .before .if3 .left) (c .before .before .put-session .ensures)
+    (written (a .nodes) (a .sheets) (a .owners .now) (a .steps .now) (a .session .now) (sym (c .before .before .before .before .before .before .before .before .before .before .before .heading-fits .ensures) ∙ not-false _ (c .before .before .before .before .before .before .before .before .before .before .if1 .left)) _ _ _ (c .before .before .before .before .before .before .before .before .before .tested .ensures) (c .before .before .before .before .before .before .before .sizes2 .given .1) (c .before .before .before .before .before .if2 .left) (c .before .before .before .before .if3 .left) (c .before .before .put-session .ensures), written-small (a .nodes) (a .sheets) (a .owners .now) (a .steps .now) (a .session .now) (sym (c .before .before .before .before .before .before .before .before .before .before .before .heading-fits .ensures) ∙ not-false _ (c .before .before .before .before .before .before .before .before .before .before .if1 .left)) _ _ _ (c .before .before .before .before .before .before .before .before .before .tested .ensures) (c .before .before .before .before .before .before .before .sizes2 .given .1) (c .before .before .before .before .before .if2 .left) (c .before .before .put-session .ensures))
 
 pub write-spec : {M : Type 1} → statement M
 write-spec =
