@@ -9,12 +9,15 @@
 #include <string.h>
 #include <time.h>
 
-size_t cusphewa_report(const uint8_t *session, size_t session_len, uint8_t *report, size_t report_len);
-size_t plain_report(const uint8_t *session, size_t session_len, uint8_t *report, size_t report_len);
+#include "../include/cusphewa.h"
 
-typedef size_t report_call(const uint8_t *, size_t, uint8_t *, size_t);
+size_t plain_report(const uint8_t *session, size_t session_len, uint8_t *report, size_t report_len);
+uint64_t plain_write(size_t nodes, size_t sheets, const uint8_t *owners, size_t owners_len, const uint32_t *steps, size_t steps_len,
+                     uint8_t *session, size_t session_len);
+uint64_t plain_read(const uint8_t *session, size_t session_len, uint32_t *steps, size_t steps_len);
 
 enum { MOST_BYTES = 16384, BUFFER = 4096, SAVES = 32, NODES = 4, SHEETS = 16, MOST_NODES = 8, MOST_SHEETS = 64 };
+enum { MOST_WORDS = CUSPHEWA_STEP_WORDS * CUSPHEWA_MOST_STEPS };
 
 struct session {
     const char *name;
@@ -195,6 +198,53 @@ static void make_w(struct session *s)
 
 static void make_empty(struct session *s) { header(s, "no commands", 1, 1); }
 
+/* All eight commands, in no order, with operands in range; the engine would stop at once. */
+static void make_mixed(struct session *s)
+{
+    uint32_t seed = 1;
+    header(s, "mixed", MOST_NODES, MOST_SHEETS);
+    while (s->length < MOST_BYTES) {
+        size_t left = MOST_BYTES - s->length;
+        seed = seed * 1664525 + 1013904223;
+        int t = seed >> 8 & 31, k = seed >> 13 & 63, n = seed >> 19 & 7;
+        /* The last bytes must be a sum of twos and threes. */
+        int number = left > 9 ? 1 + (int)(seed >> 29) : left % 2 ? 2 : 1;
+        if (number == 2)
+            read_sheet(s, t, k);
+        else if (number == 3)
+            write_sheet(s, t, k, seed);
+        else if (number == 7)
+            COMMAND(s, 7, (uint8_t)n, (uint8_t)t);
+        else
+            on_save(s, number, number == 5 ? n : t);
+    }
+}
+
+/* What the calls write to, and the steps' words that a session is written from. */
+static uint8_t report[BUFFER], written[MOST_BYTES];
+static uint32_t listed[MOST_WORDS], words[MOST_WORDS];
+
+/* A call on the session; 0 where it did not do its work. */
+typedef int call(const struct session *);
+
+#define CALLS(side) \
+    static int side##_reports(const struct session *s) \
+    { \
+        return side##_report(s->bytes, s->length, report, sizeof report) != 0; \
+    } \
+    static int side##_writes(const struct session *s) \
+    { \
+        size_t sheets = s->bytes[1], steps = CUSPHEWA_STEP_WORDS * s->commands; \
+        return side##_write(s->bytes[0], sheets, s->bytes + 2, sheets, words, steps, written, MOST_BYTES) >> 48 == \
+               CUSPHEWA_WRITTEN; \
+    } \
+    static int side##_reads(const struct session *s) \
+    { \
+        return side##_read(s->bytes, s->length, listed, MOST_WORDS) >> 48 == CUSPHEWA_LISTED; \
+    }
+CALLS(cusphewa)
+CALLS(plain)
+
 static double now(void)
 {
     struct timespec t;
@@ -202,15 +252,14 @@ static double now(void)
     return (double)t.tv_sec * 1e9 + (double)t.tv_nsec;
 }
 
-static double turn(report_call *call, const struct session *s, int calls)
+static double turn(call *timed, const struct session *s, int calls)
 {
-    static uint8_t report[BUFFER];
     double start = now();
     for (int i = 0; i < calls; i++) {
-        if (call(s->bytes, s->length, report, sizeof report) == 0)
+        if (!timed(s))
             exit(1);
-        /* The report counts as used, so that no call can be left out. */
-        __asm__ volatile("" : : "r"(report) : "memory");
+        /* What the call wrote counts as used, so that no call can be left out. */
+        __asm__ volatile("" : : : "memory");
     }
     return (now() - start) / calls;
 }
@@ -235,21 +284,54 @@ static void check(const struct session *s)
     }
 }
 
-/* The best of so many turns of each. */
-static void measure(const struct session *s, int turns, double *engine, double *plain)
+/* Does the call leave exactly this in the buffer that it writes to? */
+static int leaves(call *made, const struct session *s, void *buffer, const void *expected, size_t size)
 {
-    check(s);
+    memset(buffer, 0, size);
+    return made(s) && !memcmp(buffer, expected, size);
+}
+
+/* Both must list the same steps, and write the session from them. */
+static void check_writing(const struct session *s)
+{
+    size_t size = CUSPHEWA_STEP_WORDS * s->commands * sizeof *words;
+    if (!leaves(cusphewa_reads, s, listed, words, size) || !leaves(plain_reads, s, listed, words, size) ||
+        !leaves(cusphewa_writes, s, written, s->bytes, s->length) ||
+        !leaves(plain_writes, s, written, s->bytes, s->length)) {
+        fprintf(stderr, "%s: not written or read\n", s->name);
+        exit(1);
+    }
+}
+
+/* The best of so many turns of each. */
+static void measure(call *engine_call, call *plain_call, const struct session *s, int turns, double *engine, double *plain)
+{
     /* A turn of about half a millisecond is long enough for the clock. */
-    int calls = 1 + (int)(5e5 / (turn(plain_report, s, 20) + 1));
+    int calls = 1 + (int)(5e5 / (turn(plain_call, s, 20) + 1));
     *engine = *plain = 1e18;
     for (int j = 0; j < turns; j++) {
-        double time = turn(cusphewa_report, s, calls);
+        double time = turn(engine_call, s, calls);
         if (time < *engine)
             *engine = time;
-        time = turn(plain_report, s, calls);
+        time = turn(plain_call, s, calls);
         if (time < *plain)
             *plain = time;
     }
+}
+
+/* A line of a table: what a call costs, and what each command of it. */
+static void line(const char *name, call *engine_call, call *plain_call, const struct session *s, int turns)
+{
+    double engine, plain, commands = s->commands ? (double)s->commands : 1;
+    measure(engine_call, plain_call, s, turns, &engine, &plain);
+    printf("%-21s %6zu %6zu | %10.1f %8.2f | %10.1f %8.2f | %6.2f\n", name, s->length, s->commands, engine,
+           engine / commands, plain, plain / commands, engine / plain);
+}
+
+static void title(const char *name)
+{
+    printf("%-21s %6s %6s | %10s %8s | %10s %8s | %6s\n", name, "bytes", "cmds", "engine ns", "ns/cmd", "plain ns",
+           "ns/cmd", "ratio");
 }
 
 static void sessions(int turns)
@@ -259,15 +341,11 @@ static void sessions(int turns)
         make_own,       make_serial_long, make_conflict_long, make_serial, make_conflict,
         make_one_sheet, make_all_sheets,  make_w,             make_empty,
     };
-    printf("%-21s %6s %6s | %10s %8s | %10s %8s | %6s\n", "session", "bytes", "cmds", "engine ns",
-           "ns/cmd", "plain ns", "ns/cmd", "ratio");
+    title("session");
     for (size_t i = 0; i < sizeof make / sizeof *make; i++) {
-        double engine, plain;
         make[i](&s);
-        measure(&s, turns, &engine, &plain);
-        double commands = s.commands ? (double)s.commands : 1;
-        printf("%-21s %6zu %6zu | %10.1f %8.2f | %10.1f %8.2f | %6.2f\n", s.name, s.length, s.commands,
-               engine, engine / commands, plain, plain / commands, engine / plain);
+        check(&s);
+        line(s.name, cusphewa_reports, plain_reports, &s, turns);
     }
 }
 
@@ -282,7 +360,8 @@ static void lengths(int turns)
     for (size_t i = 0; i < sizeof bytes / sizeof *bytes; i++) {
         double engine, plain;
         own(&s, bytes[i]);
-        measure(&s, turns, &engine, &plain);
+        check(&s);
+        measure(cusphewa_reports, plain_reports, &s, turns, &engine, &plain);
         double more = (double)s.commands - before;
         printf("%-21s %6zu %6zu | %10.1f %8.2f | %10.1f %8.2f |\n", "", s.length, s.commands, engine,
                (engine - engine_before) / more, plain, (plain - plain_before) / more);
@@ -292,10 +371,23 @@ static void lengths(int turns)
     }
 }
 
-int main(int count, char **words)
+static void writing(int turns)
 {
-    int turns = count > 1 ? atoi(words[1]) : 300;
+    static struct session s;
+    make_mixed(&s);
+    plain_read(s.bytes, s.length, words, MOST_WORDS);
+    check_writing(&s);
+    printf("\n");
+    title("writing and reading");
+    line("writing", cusphewa_writes, plain_writes, &s, turns);
+    line("reading", cusphewa_reads, plain_reads, &s, turns);
+}
+
+int main(int count, char **arguments)
+{
+    int turns = count > 1 ? atoi(arguments[1]) : 300;
     sessions(turns);
     lengths(turns);
+    writing(turns);
     return 0;
 }

@@ -12,7 +12,7 @@ enum { MOST_NODES = 8, MOST_SHEETS = 64, MOST_SAVES = 32, MOST_BYTES = 16384, LE
 
 enum { UNUSED, FIRST_RUN, SECOND_RUN, SUBMITTED, COMMITTED, DROPPED };
 
-enum { NO_COMMAND, ACCEPTED, CONTENT, VALID, INVALID, DECIDED, SECOND, REFUSED };
+enum { NO_COMMAND, ACCEPTED, CONTENT, VALID, INVALID, DECIDED, SECOND, REFUSED, WRITTEN, LISTED };
 
 struct save {
     uint64_t copied, written; /* sheets with a copy from this run; those of them written */
@@ -39,21 +39,34 @@ struct end {
     uint32_t kind, value, number; /* as cusphewa_answer codes them */
 };
 
+/* Are these the counts and owners of a session? */
+static inline int good_header(size_t nodes, size_t sheets, const uint8_t *owners)
+{
+    if (nodes - 1 >= MOST_NODES || sheets - 1 >= MOST_SHEETS)
+        return 0;
+    uint32_t bad = 0;
+    for (size_t k = 0; k < sheets; k++)
+        bad |= owners[k] >= nodes;
+    return !bad;
+}
+
+/* The number of the header's bytes; 0 for refusal 1. */
+static inline size_t header_size(const uint8_t *session, size_t length)
+{
+    if (length > MOST_BYTES || length < 2 || length < (size_t)2 + session[1])
+        return 0;
+    return good_header(session[0], session[1], session + 2) ? (size_t)2 + session[1] : 0;
+}
+
 /* Reads the header and clears what the masks do not cover; 0 for refusal 1. */
 static inline int start(struct state *s, const uint8_t *session, size_t length)
 {
-    if (length > MOST_BYTES || length < 2)
+    if (!header_size(session, length))
         return 0;
     uint32_t nodes = session[0], sheets = session[1];
-    if (nodes - 1 >= MOST_NODES || sheets - 1 >= MOST_SHEETS || length < 2 + sheets)
-        return 0;
     memset(s->owned, 0, sizeof s->owned);
-    for (uint32_t k = 0; k < sheets; k++) {
-        uint32_t node = session[2 + k];
-        if (node >= nodes)
-            return 0;
-        s->owned[node] |= (uint64_t)1 << k;
-    }
+    for (uint32_t k = 0; k < sheets; k++)
+        s->owned[session[2 + k]] |= (uint64_t)1 << k;
     s->nodes = nodes;
     s->sheets = sheets;
     s->submitted = s->accepted = s->first_commits = s->second_commits = 0;
@@ -359,4 +372,132 @@ uint64_t plain_shown(const uint8_t *session, size_t session_len)
     struct state s;
     struct end end = run(&s, session, session_len);
     return ((uint64_t)end.offset << 32) + end.shown;
+}
+
+/* A step is a command's number and three operands; by the number, the bytes of its command and the bits that its second and third
+   operand can have. */
+enum { STEP = 4, COMMANDS = 8, LONGEST = 7 };
+
+static const uint8_t SIZE[COMMANDS + 1] = { 0, 2, 3, 7, 2, 2, 2, 3, 2 };
+
+static const uint32_t MASK[COMMANDS + 1][2] = {
+    { 0 }, { 0 }, { 255, 0 }, { 255, UINT32_MAX }, { 0 }, { 0 }, { 0 }, { 255, 0 }, { 0 },
+};
+
+/* The largest operands of each command; 0 where it has none, so that one test serves for all. */
+struct ranges {
+    uint32_t most[COMMANDS + 1][STEP - 1];
+};
+
+static inline struct ranges ranges_of(size_t nodes, size_t sheets)
+{
+    uint32_t t = MOST_SAVES - 1, k = (uint32_t)sheets - 1, n = (uint32_t)nodes - 1;
+    struct ranges r = { {
+        { 0 }, { t }, { t, k }, { t, k, UINT32_MAX }, { t }, { n }, { t }, { n, t }, { t },
+    } };
+    return r;
+}
+
+static inline int out_of_range(const struct ranges *r, const uint32_t *step)
+{
+    const uint32_t *most = r->most[step[0]];
+    return (step[1] > most[0]) | (step[2] > most[1]) | (step[3] > most[2]);
+}
+
+static inline int unknown(uint32_t number) { return number - 1 >= COMMANDS; }
+
+static inline uint64_t refusal(uint32_t number, size_t place)
+{
+    return ((uint64_t)REFUSED << 48) + ((uint64_t)(place > UINT32_MAX ? UINT32_MAX : place) << 8) + number;
+}
+
+/* Puts a step's bytes. As many are written as the longest command has, for the next step writes over them; near the end they go by a
+   copy, so that nothing is written there. */
+static inline void put_step(uint8_t *to, const uint8_t *end, const uint32_t *step)
+{
+    uint8_t last[LONGEST], *bytes = end - to < LONGEST ? last : to;
+    uint32_t v = step[3];
+    bytes[0] = (uint8_t)step[0];
+    bytes[1] = (uint8_t)step[1];
+    bytes[2] = (uint8_t)step[2];
+    bytes[3] = (uint8_t)(v >> 24), bytes[4] = (uint8_t)(v >> 16), bytes[5] = (uint8_t)(v >> 8), bytes[6] = (uint8_t)v;
+    if (bytes == last)
+        memcpy(to, last, SIZE[step[0]]);
+}
+
+uint64_t plain_write(size_t nodes, size_t sheets, const uint8_t *owners, size_t owners_len, const uint32_t *steps,
+                     size_t steps_len, uint8_t *session, size_t session_len)
+{
+    if (owners_len != sheets || !good_header(nodes, sheets, owners))
+        return refusal(1, 0);
+    const struct ranges r = ranges_of(nodes, sheets);
+    size_t total = 2 + sheets, count = steps_len / STEP;
+    for (size_t i = 0; i < count; i++) {
+        const uint32_t *step = steps + STEP * i;
+        if (unknown(step[0]))
+            return refusal(2, i);
+        if (out_of_range(&r, step))
+            return refusal(4, i);
+        total += SIZE[step[0]];
+    }
+    if (steps_len % STEP)
+        return refusal(unknown(steps[STEP * count]) ? 2 : 4, count);
+    if (total > MOST_BYTES)
+        return refusal(1, count);
+    if (total > session_len)
+        return refusal(15, total);
+
+    uint8_t *to = session + 2 + sheets, *end = session + total;
+    session[0] = (uint8_t)nodes;
+    session[1] = (uint8_t)sheets;
+    memcpy(session + 2, owners, sheets);
+    for (; to < end; to += SIZE[steps[0]], steps += STEP)
+        put_step(to, end, steps);
+    return ((uint64_t)WRITTEN << 48) + ((uint64_t)total << 8);
+}
+
+/* Gets the words of a command that is known and whole. As many bytes are read as the longest has, near the end from a copy; the masks
+   do without a branch on the command. */
+static inline void get_step(uint32_t *step, const uint8_t *at, const uint8_t *stop)
+{
+    uint8_t last[LONGEST] = { 0 };
+    const uint32_t *mask = MASK[at[0]];
+    if (stop - at < LONGEST)
+        at = memcpy(last, at, SIZE[at[0]]);
+    step[0] = at[0];
+    step[1] = at[1];
+    step[2] = at[2] & mask[0];
+    step[3] = ((uint32_t)at[3] << 24 | (uint32_t)at[4] << 16 | (uint32_t)at[5] << 8 | at[6]) & mask[1];
+}
+
+uint64_t plain_read(const uint8_t *session, size_t session_len, uint32_t *steps, size_t steps_len)
+{
+    size_t header = header_size(session, session_len), count = 0;
+    if (!header)
+        return refusal(1, 0);
+    const struct ranges r = ranges_of(session[0], session[1]);
+    const uint8_t *at = session + header, *stop = session + session_len;
+    for (; at < stop; at += SIZE[at[0]], count++) {
+        uint32_t step[STEP];
+        if (unknown(at[0]))
+            return refusal(2, (size_t)(at - session));
+        if (stop - at < SIZE[at[0]])
+            return refusal(3, (size_t)(at - session));
+        get_step(step, at, stop);
+        if (out_of_range(&r, step))
+            return refusal(4, (size_t)(at - session));
+    }
+    if (steps_len / STEP < count)
+        return refusal(15, count);
+
+    for (at = session + header; at < stop; at += SIZE[at[0]], steps += STEP)
+        get_step(steps, at, stop);
+    uint64_t value = ((uint64_t)session[0] << 32) + ((uint64_t)session[1] << 16) + count;
+    return ((uint64_t)LISTED << 48) + (value << 8);
+}
+
+uint64_t plain_owners(const uint8_t *session, size_t session_len)
+{
+    size_t header = header_size(session, session_len);
+    return header ? ((uint64_t)2 << 32) + header - 2 : 0;
 }

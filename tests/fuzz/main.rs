@@ -1,5 +1,5 @@
-//! Compares the engine, linked as a static library, with the model on seeded sessions, and checks
-//! demand 3 on each of them.
+//! Compares the engine, linked as a static library, with the model on seeded sessions, each with a
+//! list of steps to be written, and checks demand 3 on each of them.
 //!
 //! `fuzz --sessions N --seed S [--prefixes] [--lengths] [--states]`
 //!
@@ -7,7 +7,7 @@
 //! `--lengths` adds every length from 0 to 16,386 bytes; `--states` adds every command in every
 //! state that small sessions reach. The end status is 1 on a difference, on a
 //! broken demand, and where a run of 1,000 sessions or more has left out a refusal, or one of
-//! 20,000 or more a command in some phase of its save.
+//! 20,000 or more a command in some phase of its save, or an outcome of a writing or a reading.
 
 use model::command::{Header, MOST_BYTES};
 use model::demand3::{self, Met};
@@ -19,37 +19,12 @@ use model::session::{coded_answer, Cell, Session};
 use model::states;
 use std::collections::BTreeMap;
 use std::process::exit;
+use writing::Tally;
 
-mod engine {
-    extern "C" {
-        fn cusphewa_report(
-            session: *const u8,
-            session_len: usize,
-            report: *mut u8,
-            report_len: usize,
-        ) -> usize;
-        fn cusphewa_answer(session: *const u8, session_len: usize) -> u64;
-        fn cusphewa_shown(session: *const u8, session_len: usize) -> u64;
-    }
+mod engine;
+mod writing;
 
-    // In each call the pointers and lengths are those of one live slice.
-
-    pub fn report(session: &[u8], buffer: &mut [u8]) -> usize {
-        unsafe {
-            cusphewa_report(session.as_ptr(), session.len(), buffer.as_mut_ptr(), buffer.len())
-        }
-    }
-
-    pub fn answer(session: &[u8]) -> u64 {
-        unsafe { cusphewa_answer(session.as_ptr(), session.len()) }
-    }
-
-    pub fn shown(session: &[u8]) -> u64 {
-        unsafe { cusphewa_shown(session.as_ptr(), session.len()) }
-    }
-}
-
-/// Bytes on both sides of the report buffer, to see a write outside it.
+/// What stands on both sides of a buffer, to see a write outside it.
 const GUARD: usize = 64;
 
 /// Sessions with at most so many commands have all their prefixes compared, longer ones a sample.
@@ -60,7 +35,7 @@ const SAMPLE: usize = 40;
 const CELLS: usize = 7 * Phase::ALL.len();
 
 /// From so many sessions on, a refusal or a kind of commit that never occurred is a failure; from so
-/// many, a command that never came in some phase of its save.
+/// many, a command that never came in some phase of its save, or an outcome of a writing or reading.
 const ALL_REFUSALS: u64 = 1_000;
 const ALL_CELLS: u64 = 20_000;
 
@@ -81,6 +56,7 @@ struct Counts {
     all_saves: u64,
     longest_queue: usize,
     met: Met,
+    writing: writing::Counts,
 }
 
 struct Arguments {
@@ -148,8 +124,10 @@ fn arguments() -> Arguments {
 }
 
 fn one_session(seed: u64, prefixes: bool, counts: &mut Counts) -> Result<(), String> {
-    // Neighbouring seeds must not give neighbouring states.
-    let mut prng = Prng::new(Prng::new(seed).draw());
+    // Neighbouring seeds must not give neighbouring states; and the list is the same whatever is
+    // drawn for the session.
+    let mut seeds = Prng::new(seed);
+    let (mut prng, mut list_prng) = (Prng::new(seeds.draw()), Prng::new(seeds.draw()));
     let Input { session, buffer } = generate::input(&mut prng);
     let (run, met) = demand3::check(&session, &mut prng)
         .map_err(|trouble| format!("demand 3 in the model: {trouble}\n{}", shown(&session)))?;
@@ -158,12 +136,14 @@ fn one_session(seed: u64, prefixes: bool, counts: &mut Counts) -> Result<(), Str
         compared =
             compare_prefixes(&session, &run, &mut prng).map(|prefixes| counts.prefixes += prefixes);
     }
-    compared.map_err(|trouble| match smallest(&session, &buffer) {
-        Some(smaller) => format!("{trouble}\nsmaller: {smaller}"),
-        None => trouble,
-    })?;
+    compared
+        .and_then(|()| writing::one_session(&session, &mut prng, &mut counts.writing))
+        .map_err(|trouble| match smallest(&session, &buffer) {
+            Some(smaller) => format!("{trouble}\nsmaller: {smaller}"),
+            None => trouble,
+        })?;
     count(&session, &run, &buffer, met, counts);
-    Ok(())
+    writing::one_list(&mut list_prng, &mut counts.writing)
 }
 
 /// Cuts and extends one long session to every length that a call could be handed.
@@ -176,6 +156,7 @@ fn every_length(seed: u64) -> Result<(), String> {
         let run = Session::run(session);
         let buffer = generate::buffer(&mut prng);
         compare(session, &run, &buffer, &mut prng)?;
+        writing::read(session, &mut prng, &mut Tally::new())?;
     }
     Ok(())
 }
@@ -253,8 +234,7 @@ fn compare_answer(session: &[u8], answer: u64, part: (usize, usize)) -> Result<(
     let given = engine::shown(session);
     let expected = ((part.0 as u64) << 32) + part.1 as u64;
     if given != expected {
-        let text = |shown: u64| format!("from {} size {}", shown >> 32, shown & 0xffff_ffff);
-        return Err(difference(session, "shown", &text(expected), &text(given)));
+        return Err(difference(session, "shown", &part_text(expected), &part_text(given)));
     }
     Ok(())
 }
@@ -278,19 +258,28 @@ fn compare_prefixes(session: &[u8], run: &Session, prng: &mut Prng) -> Result<u6
 /// A smaller session that still differs: its first prefix that does, without the commands that do
 /// not matter.
 fn smallest(session: &[u8], buffer: &[u8]) -> Option<String> {
-    let trouble =
-        |bytes: &[u8]| compare(bytes, &Session::run(bytes), buffer, &mut Prng::new(0)).err();
+    let trouble = |bytes: &[u8]| {
+        let mut prng = Prng::new(0);
+        compare(bytes, &Session::run(bytes), buffer, &mut prng)
+            .and_then(|()| writing::one_session(bytes, &mut prng, &mut Default::default()))
+            .err()
+    };
     let run = Session::run(session);
     let mut cuts = vec![0];
     cuts.extend(run.started.iter().map(|(header, _)| 2 + header.sheets()));
     cuts.extend(run.steps.iter().map(|step| step.end));
     cuts.push(session.len());
     let end = cuts.iter().position(|&cut| trouble(&session[..cut]).is_some())?;
-    let mut pieces: Vec<&[u8]> =
-        cuts[..=end].windows(2).map(|cut| &session[cut[0]..cut[1]]).collect();
+    fewer(cuts[..=end].windows(2).map(|cut| &session[cut[0]..cut[1]]).collect(), trouble)
+}
+
+/// The trouble that is left without the pieces that do not matter to it; the first piece stays.
+fn fewer<T: Clone>(
+    mut pieces: Vec<&[T]>,
+    trouble: impl Fn(&[T]) -> Option<String>,
+) -> Option<String> {
     let mut size = pieces.len() / 2;
     while size > 0 {
-        // The first piece is the header and stays.
         let mut at = 1;
         while at + size <= pieces.len() {
             let mut fewer = pieces.clone();
@@ -342,6 +331,7 @@ fn count(session: &[u8], run: &Session, buffer: &[u8], met: Met, counts: &mut Co
 
 /// Prints the counts; says whether something never occurred that so many sessions have.
 fn close(counts: &Counts) -> bool {
+    let outcome_left_out = counts.writing.close();
     println!(
         "met: {} prefixes, {} reads and {} stores against the serial run, {} states with entries, \
          {} tail steps (nearest to the bound: {}), TAKE valid {} invalid {}, second runs {} \
@@ -377,11 +367,15 @@ fn close(counts: &Counts) -> bool {
     let commit_left_out = counts.first_commits == 0 || counts.second_commits == 0;
     let cell_left_out = counts.cells.len() < CELLS;
     counts.sessions >= ALL_REFUSALS && (refusal_left_out || commit_left_out)
-        || counts.sessions >= ALL_CELLS && cell_left_out
+        || counts.sessions >= ALL_CELLS && (cell_left_out || outcome_left_out)
 }
 
 fn difference(session: &[u8], what: &str, model: &str, engine: &str) -> String {
-    format!("{what} differs\n{}\nmodel:  {model}\nengine: {engine}", shown(session))
+    differs(&shown(session), what, model, engine)
+}
+
+fn differs(input: &str, what: &str, model: &str, engine: &str) -> String {
+    format!("{what} differs\n{input}\nmodel:  {model}\nengine: {engine}")
 }
 
 fn shown(session: &[u8]) -> String {
@@ -393,6 +387,10 @@ fn shown(session: &[u8]) -> String {
 fn text(buffer: &[u8], length: usize, same: usize) -> String {
     let report = &buffer[..length.min(buffer.len())];
     format!("length {length}, {same} bytes as expected\n{}", String::from_utf8_lossy(report))
+}
+
+fn part_text(part: u64) -> String {
+    format!("from {} size {}", part >> 32, part & 0xffff_ffff)
 }
 
 fn answer_text(answer: u64) -> String {

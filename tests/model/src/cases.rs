@@ -9,19 +9,19 @@ use crate::prng::Prng;
 use crate::report::{report, write_report};
 use crate::session::Session;
 
-const W: &str = "02 02 00 01  01 00  01 01  02 00 00  02 01 00  03 00 00 00 00 00 07 \
+pub const W: &str = "02 02 00 01  01 00  01 01  02 00 00  02 01 00  03 00 00 00 00 00 07 \
     03 01 00 00 00 00 09  04 00  04 01  05 00  05 00  06 00  07 00 00  06 01  02 01 00 \
     03 01 00 00 00 00 09  04 01  07 00 01";
 const W_REPORT: &str = "P 0 1 C\nP 1 2 C\nO 0 9 2\nO 1 0 0\nT 17 1 1\n";
 
-fn bytes(hexadecimal: &str) -> Vec<u8> {
+pub fn bytes(hexadecimal: &str) -> Vec<u8> {
     hexadecimal
         .split_whitespace()
         .map(|byte| u8::from_str_radix(byte, 16).expect("hexadecimal"))
         .collect()
 }
 
-fn fresh(commands: &str) -> Vec<u8> {
+pub fn fresh(commands: &str) -> Vec<u8> {
     bytes(&format!("01 01 00 {commands}"))
 }
 

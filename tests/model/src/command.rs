@@ -13,6 +13,14 @@ pub struct Header {
 }
 
 impl Header {
+    /// The header with these counts and owners, or nothing where they are not those of a session.
+    pub fn new(nodes: usize, sheets: usize, owners: &[u8]) -> Option<Header> {
+        let counts_fit = (1..=MOST_NODES).contains(&nodes) && (1..=MOST_SHEETS).contains(&sheets);
+        let owner: Vec<usize> = owners.iter().map(|&node| node as usize).collect();
+        let owners_fit = owner.len() == sheets && owner.iter().all(|&node| node < nodes);
+        (counts_fit && owners_fit).then_some(Header { nodes, owner })
+    }
+
     pub fn sheets(&self) -> usize {
         self.owner.len()
     }
@@ -76,19 +84,8 @@ pub fn read_header(session: &[u8]) -> Option<Header> {
     if session.len() > MOST_BYTES || session.len() < 2 {
         return None;
     }
-    let nodes = session[0] as usize;
-    let sheets = session[1] as usize;
-    if !(1..=MOST_NODES).contains(&nodes) || !(1..=MOST_SHEETS).contains(&sheets) {
-        return None;
-    }
-    if session.len() < 2 + sheets {
-        return None;
-    }
-    let owner: Vec<usize> = session[2..2 + sheets].iter().map(|&node| node as usize).collect();
-    if owner.iter().any(|&node| node >= nodes) {
-        return None;
-    }
-    Some(Header { nodes, owner })
+    let (nodes, sheets) = (session[0] as usize, session[1] as usize);
+    Header::new(nodes, sheets, session.get(2..2 + sheets)?)
 }
 
 /// A command that could not be read: its refusal, and how many bytes are shown of it.
@@ -130,7 +127,8 @@ pub fn read_command(header: &Header, rest: &[u8]) -> Result<(Command, usize), Un
     Ok((command, length))
 }
 
-fn in_range(header: &Header, command: Command) -> bool {
+/// Are the command's operands in the header's ranges?
+pub fn in_range(header: &Header, command: Command) -> bool {
     let save_ok = |save: usize| save < MOST_SAVES;
     let sheet_ok = |sheet: usize| sheet < header.sheets();
     let node_ok = |node: usize| node < header.nodes;

@@ -67,7 +67,7 @@ const MOODS: [[usize; 8]; 6] = [
 /// A save runs twice at most, so only READs and WRITEs can fill a long session.
 const LONG: [usize; 8] = [3, 400, 300, 4, 24, 14, 14, 1];
 
-fn header(prng: &mut Prng, nodes: usize, sheets: usize) -> Header {
+pub fn header(prng: &mut Prng, nodes: usize, sheets: usize) -> Header {
     // A node that owns nothing only moves its place in the order; it must occur too.
     let used = if prng.one_in(4) { prng.between(1, nodes) } else { nodes };
     let owner = (0..sheets).map(|_| prng.below(used)).collect();
@@ -164,6 +164,10 @@ fn refused_with(prng: &mut Prng, plan: &Plan, engine: &Engine, number: u8) -> Op
     let mut bytes = match number {
         2 => vec![prng.pick(&[0, 9, 10, 0x80, 0xff])],
         3 => {
+            if prng.one_in(2) {
+                // An operand out of range does not count where others are missing.
+                return Some(vec![prng.pick(&[2, 3, 7]), prng.pick(&[32, 255])]);
+            }
             let mut cut = any_command(prng, plan).bytes();
             cut.truncate(prng.between(1, cut.len() - 1));
             return Some(cut);
@@ -175,7 +179,7 @@ fn refused_with(prng: &mut Prng, plan: &Plan, engine: &Engine, number: u8) -> Op
                     if round % 2 == 0 {
                         let phase = prng.pick(&Phase::ALL);
                         let save = save_in(prng, plan, engine, &[phase]);
-                        command_on(prng, plan, save)
+                        command_on(prng, &plan.header, save)
                     } else {
                         candidate(prng, plan, engine)
                     }
@@ -216,13 +220,13 @@ fn out_of_range(prng: &mut Prng, plan: &Plan) -> Vec<u8> {
 /// Any command in range, whatever the state.
 fn any_command(prng: &mut Prng, plan: &Plan) -> Command {
     let save = prng.below(plan.saves.min(MOST_SAVES));
-    command_on(prng, plan, save)
+    command_on(prng, &plan.header, save)
 }
 
 /// Any command, on that save if it is on one.
-fn command_on(prng: &mut Prng, plan: &Plan, save: usize) -> Command {
-    let sheet = prng.below(plan.header.sheets());
-    let node = prng.below(plan.header.nodes);
+pub fn command_on(prng: &mut Prng, header: &Header, save: usize) -> Command {
+    let sheet = prng.below(header.sheets());
+    let node = prng.below(header.nodes);
     match prng.below(8) {
         0 => Command::Begin { save },
         1 => Command::Read { save, sheet },

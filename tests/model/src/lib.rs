@@ -1,4 +1,4 @@
-//! An independent model of document 01: sheets, saves and nodes.
+//! An independent model of document 01: sheets, saves and nodes, with the requests of document 02.
 //!
 //! It is written for reading, not for speed: a queue is a vector of entries, a save is a struct,
 //! and every rule of the paper stands in one place. The engine is compared with it, so it shares
@@ -8,11 +8,15 @@ pub mod command;
 pub mod demand3;
 pub mod engine;
 pub mod generate;
+pub mod lists;
 pub mod prng;
 pub mod report;
 pub mod serial;
 pub mod session;
 pub mod states;
+pub mod writing;
 
 #[cfg(test)]
 mod cases;
+#[cfg(test)]
+mod writing_cases;

@@ -109,6 +109,6 @@ pub fn coded_answer(answer: Answer) -> u64 {
     }
 }
 
-fn coded(kind: u64, value: u64, number: u8) -> u64 {
+pub fn coded(kind: u64, value: u64, number: u8) -> u64 {
     (kind << 48) + (value << 8) + number as u64
 }

@@ -1,0 +1,84 @@
+/* What `compose` and `steps` share. */
+#include "words.h"
+#include <errno.h>
+#include <stdarg.h>
+#include <stdlib.h>
+#include <string.h>
+
+size_t operand_count(const struct command *command)
+{
+    size_t n = 0;
+    while (n < CUSPHEWA_STEP_WORDS - 1 && command->operands[n])
+        n++;
+    return n;
+}
+
+unsigned kind_of(uint64_t answer)
+{
+    return (unsigned)(answer >> 48);
+}
+
+uint64_t value_of(uint64_t answer)
+{
+    return answer >> 8 & 0xffffffffff;
+}
+
+unsigned number_of(uint64_t answer)
+{
+    return (unsigned)(answer & 0xff);
+}
+
+const char *reason(unsigned refusal)
+{
+    switch (refusal) {
+    case CUSPHEWA_BAD_SESSION:
+        return "the header is short or out of range, or the session over 16,384 bytes";
+    case CUSPHEWA_UNKNOWN_COMMAND:
+        return "unknown command";
+    case CUSPHEWA_CUT_SHORT:
+        return "operands cut short";
+    case CUSPHEWA_OUT_OF_RANGE:
+        return "no such save, node or sheet";
+    default:
+        return "not expected here";
+    }
+}
+
+void fail(const char *format, ...)
+{
+    va_list parts;
+    va_start(parts, format);
+    vfprintf(stderr, format, parts);
+    va_end(parts);
+    fputc('\n', stderr);
+    exit(1);
+}
+
+struct input open_input(int argc, char **argv)
+{
+    struct input in = {stdin, "standard input"};
+    if (argc > 2) {
+        fprintf(stderr, "usage: %s [FILE]\n", argv[0]);
+        exit(2);
+    }
+    if (argc == 2) {
+        in.name = argv[1];
+        in.file = fopen(in.name, "rb");
+        if (!in.file)
+            fail("cannot read %s: %s", in.name, strerror(errno));
+    }
+    return in;
+}
+
+void check_input(const struct input *in)
+{
+    if (ferror(in->file))
+        fail("cannot read %s: %s", in->name, strerror(errno));
+}
+
+void close_output(void)
+{
+    /* an earlier write may be the one that failed */
+    if (ferror(stdout) || fflush(stdout) != 0)
+        fail("cannot write standard output: %s", strerror(errno));
+}
