@@ -29,7 +29,7 @@ bytes-take n b h i =
 pub in-bytes-length : (n v : ℕ) → length (in-bytes n v) ≡ n
 unfolding in-bytes
 in-bytes-length zero v = refl
-in-bytes-length (suc n) v = ap suc (in-bytes-length n v)
+in-bytes-length (suc n) v = ap suc (in-bytes-length n _)
 
 abbrev more : ℕ → ℕ → ℕ
 more a b = a * 256 + b

@@ -10,3 +10,4 @@ pub mod Calls
 pub mod Writing
 pub mod Report
 pub mod Cases
+pub mod WritingCases
