@@ -199,12 +199,12 @@ static void make_w(struct session *s)
 static void make_empty(struct session *s) { header(s, "no commands", 1, 1); }
 
 /* All eight commands, in no order, with operands in range; the engine would stop at once. */
-static void make_mixed(struct session *s)
+static void mixed(struct session *s, size_t bytes)
 {
     uint32_t seed = 1;
     header(s, "mixed", MOST_NODES, MOST_SHEETS);
-    while (s->length < MOST_BYTES) {
-        size_t left = MOST_BYTES - s->length;
+    while (s->length < bytes) {
+        size_t left = bytes - s->length;
         seed = seed * 1664525 + 1013904223;
         int t = seed >> 8 & 31, k = seed >> 13 & 63, n = seed >> 19 & 7;
         /* The last bytes must be a sum of twos and threes. */
@@ -219,6 +219,10 @@ static void make_mixed(struct session *s)
             on_save(s, number, number == 5 ? n : t);
     }
 }
+
+static void make_half_mixed(struct session *s) { mixed(s, MOST_BYTES / 2); }
+
+static void make_mixed(struct session *s) { mixed(s, MOST_BYTES); }
 
 /* What the calls write to, and the steps' words that a session is written from. */
 static uint8_t report[BUFFER], written[MOST_BYTES];
@@ -371,16 +375,23 @@ static void lengths(int turns)
     }
 }
 
+/* The same session written and read. */
 static void writing(int turns)
 {
     static struct session s;
-    make_mixed(&s);
-    plain_read(s.bytes, s.length, words, MOST_WORDS);
-    check_writing(&s);
+    static void (*const make[])(struct session *) = { make_half_mixed, make_mixed, make_own, make_serial_long };
     printf("\n");
     title("writing and reading");
-    line("writing", cusphewa_writes, plain_writes, &s, turns);
-    line("reading", cusphewa_reads, plain_reads, &s, turns);
+    for (size_t i = 0; i < sizeof make / sizeof *make; i++) {
+        char name[64];
+        make[i](&s);
+        plain_read(s.bytes, s.length, words, MOST_WORDS);
+        check_writing(&s);
+        snprintf(name, sizeof name, "write, %.14s", s.name);
+        line(name, cusphewa_writes, plain_writes, &s, turns);
+        snprintf(name, sizeof name, "read, %.15s", s.name);
+        line(name, cusphewa_reads, plain_reads, &s, turns);
+    }
 }
 
 int main(int count, char **arguments)

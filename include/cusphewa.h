@@ -66,7 +66,7 @@ uint64_t cusphewa_shown(const uint8_t *session, size_t session_len);
    they are. Otherwise CUSPHEWA_REFUSED, with the first of these, and nothing is written:
      1   a bad header: nodes, sheets and owners not as in a session, or owners_len not sheets; the value is 0
      2   an unknown command; the value is the step, from 0
-     4   a bad operand, or words that are no whole step; the value is the step
+     4   a bad operand, or a known command whose words are cut short at the end of `steps`; the value is the step
      1   over 16,384 bytes; the value is the number of steps
      15  `session` is too short; the value is the number of bytes that it needs
    A value above 4,294,967,295 is told as that number. */

@@ -33,11 +33,14 @@ part-code p = p .from * 4294967296 + p .size
 
 -- ---- Writing and reading
 
--- a place above 4,294,967,295 is told as that number
+-- a place above this is told as this
+abbrev pub last-place : ℕ
+last-place = 4294967295
+
 abbrev pub outcome-code : lists.Outcome → ℕ
 outcome-code (lists.wrote size) = coded 8 size 0
 outcome-code (lists.listed n m q) = coded 9 (n * 4294967296 + m * 65536 + q) 0
-outcome-code (lists.refuse-with r) = coded 7 (min (r .place) 4294967295) (r .number)
+outcome-code (lists.refuse-with r) = coded 7 (min (r .place) last-place) (r .number)
 
 pub record Told : Type 0 where
   pub code : ℕ

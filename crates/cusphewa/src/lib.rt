@@ -19,7 +19,7 @@ ghost use Rattle.wire.specs.declared.Opened.the-variants.{Header};
 ghost use Rattle.session.specs.Meaning.{stop-of, reply-of};
 ghost use Rattle.session.specs.Carried.{Within, Answered};
 ghost use Rattle.state.specs.View.{verdict-of};
-ghost use Rattle.cusphewa.specs.Codes.{coded, verdict-code, answer-code, part-code, told-call, Near, NearReply};
+ghost use Rattle.cusphewa.specs.Codes.{coded, verdict-code, answer-code, part-code, told-call, last-place, Near, NearReply};
 ghost use Rattle.writing.specs.Meaning.{heading-of};
 
 // ---- The report
@@ -158,12 +158,15 @@ pub extern "C" fn cusphewa_shown(session: &[u8]) -> u64
 
 // ---- Writing and reading
 
-// A place as far as a code holds it: all above the last stand for it.
+// The last place that a code holds; it stands for all above.
+const LAST_PLACE: usize = 4294967295;
+
+// A place as far as a code holds it.
 fn place(p: usize) -> u64
-    ensures { λ r. ⌜ r ≡ min p 4294967295 ⌝ }
+    ensures { λ r. ⌜ r ≡ min p last-place ⌝ }
 {
-    if 4294967295 < p {
-        return 4294967295;
+    if LAST_PLACE < p {
+        return LAST_PLACE as u64;
     }
     p as u64
 }
@@ -182,6 +185,7 @@ pub extern "C" fn cusphewa_write(
         ≡ told-call (lists.write-call (heading-of nodes sheets (now (owners .entry))) (lists.instructions (now (steps .entry))) (now (session .entry)))
         ⌝ }
     ensures read_again { λ _. ⌜ lists.WrittenRead (heading-of nodes sheets (now (owners .entry))) (lists.instructions (now (steps .entry))) ⌝ }
+    ensures words_again { λ _. ⌜ lists.WordsAgain (heading-of nodes sheets (now (owners .entry))) (now (steps .entry)) ⌝ }
     ensures one_writing { λ _. ⌜ lists.OneWriting (heading-of nodes sheets (now (owners .entry))) (lists.instructions (now (steps .entry))) ⌝ }
     ensures one_list { λ _. ⌜ lists.OneList (heading-of nodes sheets (now (owners .entry))) (lists.instructions (now (steps .entry))) ⌝ }
 {

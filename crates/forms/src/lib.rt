@@ -4,6 +4,9 @@ ghost use Prim.Native.Nat.{_+_};
 ghost use Rattle.rules.specs.Bytes.{widths};
 ghost use Rattle.forms.specs.Slots.{operand-of, Has, slot-limit, slot-width, is-present, operands};
 
+// A step in words: its number, then three operands.
+pub const STEP_WORDS: usize = 4;
+
 // What stands at a slot; Absent behind a command's last operand.
 pub enum Kind {
     Save,

@@ -1,5 +1,6 @@
 // Reading a session: its header and all its steps, in words. First everything is tested, then written.
 use forms::Kind;
+use forms::STEP_WORDS;
 use wire::Opened;
 ghost use mathlib.Core.Path.{_≡_};
 ghost use Prim.Native.Nat.{_+_, _<_, _≤_};
@@ -104,7 +105,7 @@ fn put_words(steps: &mut [u32], i: usize, c: u32, x: u32, y: u32, z: u32) -> usi
     steps[i + 1] = x;
     steps[i + 2] = y;
     steps[i + 3] = z;
-    i + 4
+    i + STEP_WORDS
 }
 
 // The words of the step at an offset, which has all its bytes.
@@ -160,7 +161,7 @@ pub fn read(session: &[u8], steps: &mut [u32]) -> Listed
             match c {
                 Counted::Refused(p, n) => Listed::Refused(p, n),
                 Counted::Steps(q) => {
-                    if steps.len() / 4 < q {
+                    if steps.len() / STEP_WORDS < q {
                         return Listed::Refused(q, 15);
                     }
                     put_steps(steps, session, start);

@@ -13,7 +13,7 @@ use lib.Seq.{take-at, drop-at, take-add, drop-drop, drop-nil}
 use Rattle.rules.specs.Sizes.{max-nodes, max-sheets, max-session}
 use Rattle.rules.specs.Bytes.{Header, byte, header, header-size, in-range, opens, Operand, save, sheet, node, content, width, limit, Form, commands, form-of, widths, values, whole, front, Step, read-from}
 use Rattle.rules.specs.Steps.{Checked, pass, refuse}
-use Rattle.rules.specs.Writing.{Heading, Instruction, header-of, slots, Refusal, at, unless, first-of, heading-fits, zeros, below-limits, operands-fit, form, check-by, check-step, refusal-at, steps-refusal, in-bytes, operand-bytes, step-bytes, steps-bytes, session-bytes, bytes, refused, written-unless, write-refusal, write, heading, Listing, steps, stops, also, numbers, instruction, list-by, list-from, session, refuses, listed-by, read, Bytes, ReadWritten, WrittenRead, OneWriting, OneList, commands-of, ReadRun}
+use Rattle.rules.specs.Writing.{Heading, Instruction, header-of, slots, Refusal, at, unless, first-of, heading-fits, zeros, below-limits, operands-fit, form, check-by, check-step, refusal-at, steps-refusal, in-bytes, operand-bytes, step-bytes, steps-bytes, session-bytes, bytes, refused, written-unless, write-refusal, write, heading, Listing, steps, stops, also, numbers, instruction, list-by, list-from, session, refuses, listed-by, read, Bytes, ReadWritten, WrittenRead, OneWriting, OneList, commands-of, ReadRun, instructions, words, read-call, WordsAgain}
 use Rattle.rules.proofs.Table.{bool, and-l, and-r}
 use Rattle.rules.proofs.Numbers.{bytes-drop, bytes-take, in-bytes-length, number-back, bytes-back}
 
@@ -322,3 +322,17 @@ listed-run n m zero p (b ∷ bs) is e =
 
 pub read-run : (b : List ℕ) → ReadRun b
 read-run b g is e = read-inverts b g is e (λ o same list. rw (← same) (refl, listed-run (byte b 0) (byte b 1) 0 (header-size b) (drop (header-size b) b) is list))
+
+-- ---- In words
+
+words-of : (ws : List ℕ) → words (instructions ws) ≡ ws
+unfolding words
+words-of [] = refl
+words-of (c ∷ []) = refl
+words-of (c ∷ x ∷ []) = refl
+words-of (c ∷ x ∷ y ∷ []) = refl
+words-of (c ∷ x ∷ y ∷ z ∷ ws) = ap (λ (l : List ℕ). c ∷ x ∷ y ∷ z ∷ l) (words-of ws)
+
+pub words-again : (g : Heading) (ws : List ℕ) → WordsAgain g ws
+unfolding read-call
+words-again g ws b room e h = rw (written-read g (instructions ws) b e, words-of ws, le-ltb (length room) (length ws) h)

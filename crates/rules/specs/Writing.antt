@@ -1,5 +1,5 @@
 -- Request 2, "Writing a session": a header and a list of steps as bytes, and a session's bytes as a header and all its steps.
-use Prim.Native.Nat.{ℕ, zero, suc, _-_, _/_, _%_, _^_, _<_}
+use Prim.Native.Nat.{ℕ, zero, suc, _-_, _/_, _%_, _^_, _≤_, _<_}
 use mathlib.Core.Path.{_≡_}
 use mathlib.Core.Bool.{Bool, true, false, _&&_, cond}
 use mathlib.Core.List.{List, [], _∷_, _++_}
@@ -270,3 +270,9 @@ owners-if false b = record { from = 0; size = 0 }
 
 unfoldable pub owners-part : List ℕ → Part
 owners-part b = owners-if (opens b) b
+
+-- In the terms of the calls: what was written is read as the words that were handed over.
+abbrev pub WordsAgain : Heading → List ℕ → Type 0
+WordsAgain g ws =
+    (b room : List ℕ) → write g (instructions ws) ≡ bytes b → length ws ≤ length room
+    → read-call b room ≡ record { outcome = listed (g .nodes) (g .sheets) (length (instructions ws)); room = ws ++ drop (length ws) room }

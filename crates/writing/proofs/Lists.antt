@@ -15,7 +15,7 @@ use Rattle.rules.proofs.Table.{bool}
 use Rattle.forms.specs.Slots.{operands}
 use Rattle.forms.proofs.Slots.{step, step-size}
 use Rattle.writing.specs.declared.Sized.the-variants.{Steps, Refused}
-use Rattle.writing.specs.Meaning.{number-of, Sizes}
+use Rattle.writing.specs.Meaning.{number-of, too-many, Sizes}
 
 -- ---- What stands at word i
 
@@ -67,14 +67,14 @@ pub record Passed (n m : ℕ) (ws : List ℕ) (i q t : ℕ) : Type 0 where
   pub count : length (instructions ws) ≡ q + length (instructions (drop i ws))
   pub so-far : ℕ
   pub total : length (steps-bytes (instructions ws)) ≡ so-far + length (steps-bytes (instructions (drop i ws)))
-  pub capped : t ≡ min so-far 16385
+  pub capped : t ≡ min so-far too-many
 
 pub passed-none : (n m : ℕ) (ws : List ℕ) → Passed n m ws 0 0 0
 passed-none n m ws = record { within = omega arith; few = omega arith; refusal = refl; count = omega arith; so-far = 0; total = omega arith; capped = omega arith }
 
 module _ {n m : ℕ} {ws : List ℕ} {i q t : ℕ} (p : Passed n m ws i q t) where
   module _ (l : i + 4 ≤ length ws) where
-    pub passed-next : (w t′ : ℕ) → 0 ≡ number-of (check-step n m (here ws i)) → w ≡ 1 + widths (operands (getD ws i 0)) → t′ ≡ min (t + w) 16385 → Passed n m ws (i + 4) (q + 1) t′
+    pub passed-next : (w t′ : ℕ) → 0 ≡ number-of (check-step n m (here ws i)) → w ≡ 1 + widths (operands (getD ws i 0)) → t′ ≡ min (t + w) too-many → Passed n m ws (i + 4) (q + 1) t′
     unfolding steps-refusal steps-bytes
     passed-next w t′ e s c =
         let rest = instructions (drop (i + 4) ws) in

@@ -9,13 +9,14 @@ use native.Mathlib.Omega.{arith}
 use borrow.Author.Tests.{lt-ltb, le-ltb, lt-leb}
 use lib.ListN.{length, drop, length-append}
 use Rattle.rules.specs.Writing.{at, heading-fits, steps-refusal, session-bytes, Written, bytes, write, write-into, wrote, refuse-with, Call, write-call, instructions}
+use Rattle.rules.specs.Sizes.{max-session}
 use Rattle.rules.specs.Report.{Filled}
 use Rattle.rules.proofs.Writing.{writes}
 use Rattle.text.specs.Wrote.{Wrote}
 use Rattle.text.proofs.Writing.{wrote-as, wrote-then, wrote-length, wrote-front}
 use Rattle.writing.specs.declared.Sized.{Sized}
 use Rattle.writing.specs.declared.Sized.the-variants.{Steps, Refused}
-use Rattle.writing.specs.Meaning.{heading-of, Sizes, steps-of, Passes}
+use Rattle.writing.specs.Meaning.{heading-of, too-many, Sizes, steps-of, Passes}
 use Rattle.writing.proofs.Headings.{fits-has}
 
 -- the bytes of a session
@@ -62,19 +63,19 @@ module _ (n m : ℕ) (o ws room : List ℕ) where
       pub passes : Passes ws
       passes = (n, (m, passed .0))
 
-      pub total-small : t ≤ 16385
+      pub total-small : t ≤ too-many
       total-small = omega (arith, passed .1 .1)
 
-      size-of : 2 + m + t ≤ 16384 → length (whole n m o ws) ≡ 2 + m + t
+      size-of : 2 + m + t ≤ max-session → length (whole n m o ws) ≡ 2 + m + t
       size-of h = omega (arith, whole-length n m o ws, fits-has n m o f .count, passed .1 .1)
 
-      pub too-long : 16384 < 2 + m + t → answers (record { outcome = refuse-with (at q 1); room = room })
+      pub too-long : max-session < 2 + m + t → answers (record { outcome = refuse-with (at q 1); room = room })
       unfolding write-call write
       too-long h =
-          let long : 16384 < length (whole n m o ws) = omega (arith, whole-length n m o ws, fits-has n m o f .count, passed .1 .1) in
-          rw (f, passed .0, lt-leb (length (whole n m o ws)) 16384 long, ← passed .1 .0)
+          let long : max-session < length (whole n m o ws) = omega (arith, whole-length n m o ws, fits-has n m o f .count, passed .1 .1) in
+          rw (f, passed .0, lt-leb (length (whole n m o ws)) max-session long, ← passed .1 .0)
 
-      module _ (h : 2 + m + t ≤ 16384) where
+      module _ (h : 2 + m + t ≤ max-session) where
         -- a session that is written if there is room
         into : write-call (heading-of n m o) (instructions ws) room ≡ write-into (bytes (whole n m o ws)) room
         unfolding write-call
@@ -96,5 +97,5 @@ module _ (n m : ℕ) (o ws room : List ℕ) where
             let long : length (whole n m o ws) ≤ length room = fits-room l in
             sym (into ∙ rw (le-ltb (length room) (length (whole n m o ws)) long) (λ i. record { outcome = wrote (sym size i); room = sym text i }))
 
-        pub written-small : {k : List ℕ} {u : ℕ} → Wrote room 0 (whole n m o ws) (2 + (length o + length (steps-of ws))) u k → u ≤ 16384
+        pub written-small : {k : List ℕ} {u : ℕ} → Wrote room 0 (whole n m o ws) (2 + (length o + length (steps-of ws))) u k → u ≤ max-session
         written-small w = omega (arith, w .ends, size-of h)

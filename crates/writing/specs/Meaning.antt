@@ -20,9 +20,13 @@ abbrev pub number-of : Checked → ℕ
 number-of pass = 0
 number-of (refuse n) = n
 
--- the steps' number and bytes, where none is refused; a total above 16,384 stands for itself and all larger ones
+-- one more byte than a session may have: it stands for every larger number
+abbrev pub too-many : ℕ
+too-many = 16385
+
+-- the steps' number and bytes, where none is refused
 abbrev pub Sizes : (nodes sheets : ℕ) → List rules.Instruction → Sized → Type 0
-Sizes n m is (Steps q t) = (rules.steps-refusal n m 0 is ≡ none) × ((q ≡ length is) × (t ≡ min (length (rules.steps-bytes is)) 16385))
+Sizes n m is (Steps q t) = (rules.steps-refusal n m 0 is ≡ none) × ((q ≡ length is) × (t ≡ min (length (rules.steps-bytes is)) too-many))
 Sizes n m is (Refused p e) = rules.steps-refusal n m 0 is ≡ some (rules.at p e)
 
 -- the bytes of steps in words

@@ -1,5 +1,6 @@
 // Writing a session: a header and a list of steps, in words, as bytes. First everything is tested, then written.
 use forms::Kind;
+use forms::STEP_WORDS;
 ghost use mathlib.Core.Path.{_≡_};
 ghost use mathlib.Core.List.{List, [], _∷_};
 ghost use Prim.Native.Nat.{ℕ, _+_, _<_, _≤_, min};
@@ -11,7 +12,7 @@ ghost use Rattle.rules.specs.Writing as rules;
 ghost use Rattle.forms.specs.Slots.{operand-of, slot-width};
 ghost use Rattle.forms.proofs.Slots.{step};
 ghost use Rattle.text.specs.Wrote.{Wrote};
-ghost use Rattle.writing.specs.Meaning.{heading-of, number-of, Sizes, steps-of, Passes, outcome-of, Small};
+ghost use Rattle.writing.specs.Meaning.{heading-of, number-of, Sizes, steps-of, Passes, outcome-of, too-many, Small};
 
 const MAX_SESSION: usize = 16384;
 
@@ -106,7 +107,7 @@ fn cut_refusal(c: u32) -> u8
 
 // A number of bytes as far as it matters: one more than a session may have stands for all above.
 fn capped(n: usize) -> usize
-    ensures { λ r. ⌜ r ≡ min n 16385 ⌝ }
+    ensures { λ r. ⌜ r ≡ min n too-many ⌝ }
 {
     if MAX_SESSION < n {
         return MAX_SESSION + 1;
@@ -121,14 +122,14 @@ fn tested(nodes: u64, sheets: u64, steps: &[u32]) -> Sized
     let mut i: usize = 0;
     let mut q: usize = 0;
     let mut t: usize = 0;
-    while 4 <= steps.len() - i {
+    while STEP_WORDS <= steps.len() - i {
         let c = steps[i];
         let e = step_refusal(nodes, sheets, c, steps[i + 1], steps[i + 2], steps[i + 3]);
         if 0 < e {
             return Sized::Refused(q, e);
         }
         t = capped(t + forms::size(c));
-        i += 4;
+        i += STEP_WORDS;
         q += 1;
     }
     if i < steps.len() {
@@ -210,9 +211,9 @@ fn put_steps(buf: &mut [u8], at: usize, steps: &[u32]) -> usize
 {
     let mut e = at;
     let mut i: usize = 0;
-    while 4 <= steps.len() - i {
+    while STEP_WORDS <= steps.len() - i {
         e = put_step(buf, e, steps[i], steps[i + 1], steps[i + 2], steps[i + 3]);
-        i += 4;
+        i += STEP_WORDS;
     }
     e
 }

@@ -1,7 +1,7 @@
 -- The answer's number; the theorems are the rules'.
 use mathlib.Core.Path.{_∙_}
 use native.Mathlib.Omega.{arith}
-use Rattle.rules.proofs.Writing.{written-read, one-writing, one-list}
+use Rattle.rules.proofs.Writing.{written-read, words-again, one-writing, one-list}
 use Rattle.cusphewa.proofs.Lists.{wrote-told, wrote-small}
 use borrow.Author.Needs.{needs}
 use Rattle.cusphewa.proofs.cusphewa_write.Statement.{statement}
@@ -31,13 +31,17 @@ same-length : tie.Need-same-length
 same-length c = search needs
 
 returns : tie.Need-returns
-returns c = (wrote-told _ _ (c .before .before .written .given .1) (c .before .before .before .before .before .before .write .ensures .0) (c .code .ensures), (written-read _ _, (one-writing _ _, one-list _ _)))
+returns c =
+    let a = c .before .before .before .before .before .before .before .before .before .before .before .args in
+    (wrote-told _ _ (c .before .before .written .given .1) (c .before .before .before .before .before .before .write .ensures .0) (c .code .ensures), (written-read _ _, (words-again _ (a .steps .now), (one-writing _ _, one-list _ _))))
 
 same-length-2 : tie.Need-same-length-2
 same-length-2 c = search needs
 
 returns-2 : tie.Need-returns-2
-returns-2 c = (wrote-told _ _ (c .before .before .before .written2 .given .1) (c .before .before .before .before .before .before .before .write .ensures .0) (c .code2 .ensures ∙ rw (c .before .place .ensures)), (written-read _ _, (one-writing _ _, one-list _ _)))
+returns-2 c =
+    let a = c .before .before .before .before .before .before .before .before .before .before .before .before .args in
+    (wrote-told _ _ (c .before .before .before .written2 .given .1) (c .before .before .before .before .before .before .before .write .ensures .0) (c .code2 .ensures ∙ rw (c .before .place .ensures)), (written-read _ _, (words-again _ (a .steps .now), (one-writing _ _, one-list _ _))))
 
 pub cusphewa-write-spec : {M : Type 1} → statement M
 cusphewa-write-spec =
