@@ -158,17 +158,17 @@ size-small c =
     omega (arith, widths-by os (few c), width-small (slot os 0), width-small (slot os 1), width-small (slot os 2))
 
 pub record Widths (c : ℕ) (r : Kinds) : Type 0 where
-  pub first : slot-width (operand-of (r .first)) ≤ 4
-  pub second : slot-width (operand-of (r .second)) ≤ 4
-  pub third : slot-width (operand-of (r .third)) ≤ 4
-  pub sum : slot-width (operand-of (r .first)) + (slot-width (operand-of (r .second)) + slot-width (operand-of (r .third))) ≡ widths (operands c)
+  pub first : slot-width (operand-of (r .0)) ≤ 4
+  pub second : slot-width (operand-of (r .1)) ≤ 4
+  pub third : slot-width (operand-of (r .2)) ≤ 4
+  pub sum : slot-width (operand-of (r .0)) + (slot-width (operand-of (r .1)) + slot-width (operand-of (r .2))) ≡ widths (operands c)
 
 pub has-widths : {c : ℕ} {r : Kinds} → Has c r → Widths c r
 has-widths {c} {r} h =
     record {
-      first = width-small (operand-of (r .first));
-      second = width-small (operand-of (r .second));
-      third = width-small (operand-of (r .third));
+      first = width-small (operand-of (r .0));
+      second = width-small (operand-of (r .1));
+      third = width-small (operand-of (r .2));
       sum = rw (h .first, h .second, h .third) (sym (widths-by (operands c) (few c)));
     }
 

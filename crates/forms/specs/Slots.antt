@@ -29,9 +29,9 @@ operands c = operands-in (form c)
 
 -- what stands at the slots of command number c
 pub record Has (c : ℕ) (r : Kinds) : Type 0 where
-  pub first : operand-of (r .first) ≡ slot (operands c) 0
-  pub second : operand-of (r .second) ≡ slot (operands c) 1
-  pub third : operand-of (r .third) ≡ slot (operands c) 2
+  pub first : operand-of (r .0) ≡ slot (operands c) 0
+  pub second : operand-of (r .1) ≡ slot (operands c) 1
+  pub third : operand-of (r .2) ≡ slot (operands c) 2
 
 abbrev pub is-present : Option Operand → Bool
 is-present none = false

@@ -16,62 +16,23 @@ pub enum Kind {
     Absent,
 }
 
-pub struct Kinds {
-    pub first: Kind,
-    pub second: Kind,
-    pub third: Kind,
-}
+// What stands at a command's three slots.
+pub struct Kinds(pub Kind, pub Kind, pub Kind);
 
 // The operands of a command number, none where there is no such command.
 pub fn shape(c: u32) -> Kinds
     ensures { λ r. ⌜ Has c r ⌝ }
 {
     match c {
-        1 => Kinds {
-            first: Kind::Save,
-            second: Kind::Absent,
-            third: Kind::Absent,
-        },
-        2 => Kinds {
-            first: Kind::Save,
-            second: Kind::Sheet,
-            third: Kind::Absent,
-        },
-        3 => Kinds {
-            first: Kind::Save,
-            second: Kind::Sheet,
-            third: Kind::Content,
-        },
-        4 => Kinds {
-            first: Kind::Save,
-            second: Kind::Absent,
-            third: Kind::Absent,
-        },
-        5 => Kinds {
-            first: Kind::Node,
-            second: Kind::Absent,
-            third: Kind::Absent,
-        },
-        6 => Kinds {
-            first: Kind::Save,
-            second: Kind::Absent,
-            third: Kind::Absent,
-        },
-        7 => Kinds {
-            first: Kind::Node,
-            second: Kind::Save,
-            third: Kind::Absent,
-        },
-        8 => Kinds {
-            first: Kind::Save,
-            second: Kind::Absent,
-            third: Kind::Absent,
-        },
-        _ => Kinds {
-            first: Kind::Absent,
-            second: Kind::Absent,
-            third: Kind::Absent,
-        },
+        1 => Kinds(Kind::Save, Kind::Absent, Kind::Absent),
+        2 => Kinds(Kind::Save, Kind::Sheet, Kind::Absent),
+        3 => Kinds(Kind::Save, Kind::Sheet, Kind::Content),
+        4 => Kinds(Kind::Save, Kind::Absent, Kind::Absent),
+        5 => Kinds(Kind::Node, Kind::Absent, Kind::Absent),
+        6 => Kinds(Kind::Save, Kind::Absent, Kind::Absent),
+        7 => Kinds(Kind::Node, Kind::Save, Kind::Absent),
+        8 => Kinds(Kind::Save, Kind::Absent, Kind::Absent),
+        _ => Kinds(Kind::Absent, Kind::Absent, Kind::Absent),
     }
 }
 
@@ -119,8 +80,8 @@ pub fn size(c: u32) -> usize
     ensures { λ r. ⌜ r ≡ 1 + widths (operands c) ⌝ }
 {
     let s = shape(c);
-    let j = s.first;
-    let k = s.second;
-    let l = s.third;
+    let j = s.0;
+    let k = s.1;
+    let l = s.2;
     1 + (width(j) + (width(k) + width(l)))
 }

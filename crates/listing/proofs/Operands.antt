@@ -38,13 +38,13 @@ module _ (b : List ℕ) (p : ℕ) where
 -- ---- The three numbers of the step at offset p
 
 abbrev w₀ : Kinds → ℕ
-w₀ r = slot-width (operand-of (r .first))
+w₀ r = slot-width (operand-of (r .0))
 
 abbrev w₁ : Kinds → ℕ
-w₁ r = slot-width (operand-of (r .second))
+w₁ r = slot-width (operand-of (r .1))
 
 abbrev w₂ : Kinds → ℕ
-w₂ r = slot-width (operand-of (r .third))
+w₂ r = slot-width (operand-of (r .2))
 
 module _ (b : List ℕ) (p : ℕ) (r : Kinds) (h : Has (getD b p 0) r) where
   pub numbers-at : numbers (operands (getD b p 0)) (drop (suc p) b) ≡ three (value (w₀ r) (drop (p + 1) b)) (value (w₁ r) (drop (p + (1 + w₀ r)) b)) (value (w₂ r) (drop (p + (1 + w₀ r + w₁ r)) b))
@@ -57,10 +57,10 @@ module _ (b : List ℕ) (p : ℕ) (r : Kinds) (h : Has (getD b p 0) r) where
 -- ---- What it earns
 
 module _ (n m : ℕ) (b : List ℕ) (p : ℕ) (r : Kinds) (h : Has (getD b p 0) r) (l : p < length b) where
-  pub step-unknown : is-present (operand-of (r .first)) ≡ false → 2 ≡ earned n m (drop p b)
+  pub step-unknown : is-present (operand-of (r .0)) ≡ false → 2 ≡ earned n m (drop p b)
   step-unknown e = rw (drop-cons b p 0 l, unknown-number (getD b p 0) (rw (h .first) at e))
 
-  module _ (e : is-present (operand-of (r .first)) ≡ true) where
+  module _ (e : is-present (operand-of (r .0)) ≡ true) where
     known : earned n m (drop p b)
         ≡ cond (ltb (length (drop (suc p) b)) (widths (operands (getD b p 0)))) 3 (cond (operands-fit n m (operands (getD b p 0)) (numbers (operands (getD b p 0)) (drop (suc p) b))) 0 4)
     unfolding operands
@@ -81,29 +81,29 @@ module _ (n m : ℕ) (b : List ℕ) (p : ℕ) (r : Kinds) (h : Has (getD b p 0) 
       abbrev v₂ : ℕ
       v₂ = value (w₂ r) (drop (p + (1 + w₀ r + w₁ r)) b)
 
-      judged : earned n m (drop p b) ≡ cond (ltb v₀ (slot-limit n m (operand-of (r .first))) && (ltb v₁ (slot-limit n m (operand-of (r .second))) && ltb v₂ (slot-limit n m (operand-of (r .third))))) 0 4
+      judged : earned n m (drop p b) ≡ cond (ltb v₀ (slot-limit n m (operand-of (r .0))) && (ltb v₁ (slot-limit n m (operand-of (r .1))) && ltb v₂ (slot-limit n m (operand-of (r .2))))) 0 4
       judged =
           let long : widths (operands (getD b p 0)) ≤ length (drop (suc p) b) = rw length-drop (omega (arith, has-widths h .sum)) in
           known ∙ rw (le-ltb (length (drop (suc p) b)) (widths (operands (getD b p 0))) long, numbers-at b p r h, fits-by n m v₀ v₁ v₂ (operands (getD b p 0)) (few (getD b p 0)), ← h .first, ← h .second, ← h .third)
 
       module _ (x : ℕ) (ex : x ≡ v₀) where
-        pub first-bad : slot-limit n m (operand-of (r .first)) ≤ x → 4 ≡ earned n m (drop p b)
-        first-bad o = rw (judged, ← ex, le-ltb x (slot-limit n m (operand-of (r .first))) o)
+        pub first-bad : slot-limit n m (operand-of (r .0)) ≤ x → 4 ≡ earned n m (drop p b)
+        first-bad o = rw (judged, ← ex, le-ltb x (slot-limit n m (operand-of (r .0))) o)
 
-        module _ (o₀ : x < slot-limit n m (operand-of (r .first))) (y : ℕ) (ey : y ≡ v₁) where
-          pub second-bad : slot-limit n m (operand-of (r .second)) ≤ y → 4 ≡ earned n m (drop p b)
-          second-bad o = rw (judged, ← ex, ← ey, lt-ltb x (slot-limit n m (operand-of (r .first))) o₀, le-ltb y (slot-limit n m (operand-of (r .second))) o)
+        module _ (o₀ : x < slot-limit n m (operand-of (r .0))) (y : ℕ) (ey : y ≡ v₁) where
+          pub second-bad : slot-limit n m (operand-of (r .1)) ≤ y → 4 ≡ earned n m (drop p b)
+          second-bad o = rw (judged, ← ex, ← ey, lt-ltb x (slot-limit n m (operand-of (r .0))) o₀, le-ltb y (slot-limit n m (operand-of (r .1))) o)
 
-          module _ (o₁ : y < slot-limit n m (operand-of (r .second))) (z : ℕ) (ez : z ≡ v₂) where
+          module _ (o₁ : y < slot-limit n m (operand-of (r .1))) (z : ℕ) (ez : z ≡ v₂) where
             -- the first two numbers pass, and the third decides
-            third : earned n m (drop p b) ≡ cond (ltb z (slot-limit n m (operand-of (r .third)))) 0 4
-            third = judged ∙ rw (← ex, ← ey, ← ez, lt-ltb x (slot-limit n m (operand-of (r .first))) o₀, lt-ltb y (slot-limit n m (operand-of (r .second))) o₁)
+            third : earned n m (drop p b) ≡ cond (ltb z (slot-limit n m (operand-of (r .2)))) 0 4
+            third = judged ∙ rw (← ex, ← ey, ← ez, lt-ltb x (slot-limit n m (operand-of (r .0))) o₀, lt-ltb y (slot-limit n m (operand-of (r .1))) o₁)
 
-            pub third-bad : slot-limit n m (operand-of (r .third)) ≤ z → 4 ≡ earned n m (drop p b)
-            third-bad o = rw (third, le-ltb z (slot-limit n m (operand-of (r .third))) o)
+            pub third-bad : slot-limit n m (operand-of (r .2)) ≤ z → 4 ≡ earned n m (drop p b)
+            third-bad o = rw (third, le-ltb z (slot-limit n m (operand-of (r .2))) o)
 
-            pub none-bad : z < slot-limit n m (operand-of (r .third)) → 0 ≡ earned n m (drop p b)
-            none-bad o = rw (third, lt-ltb z (slot-limit n m (operand-of (r .third))) o)
+            pub none-bad : z < slot-limit n m (operand-of (r .2)) → 0 ≡ earned n m (drop p b)
+            none-bad o = rw (third, lt-ltb z (slot-limit n m (operand-of (r .2))) o)
 
 -- ---- The step itself
 

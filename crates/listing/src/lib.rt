@@ -52,9 +52,9 @@ fn step_refusal(session: &[u8], at: usize, nodes: u64, sheets: u64) -> u8
     ensures { λ r. ⌜ r ≡ earned nodes sheets (drop at (now (session .entry))) ⌝ }
 {
     let s = forms::shape(session[at] as u32);
-    let j = s.first;
-    let k = s.second;
-    let l = s.third;
+    let j = s.0;
+    let k = s.1;
+    let l = s.2;
     if !forms::present(j) {
         return 2;
     }
@@ -115,9 +115,9 @@ fn put_step(steps: &mut [u32], i: usize, session: &[u8], at: usize) -> usize
 {
     let c = session[at] as u32;
     let s = forms::shape(c);
-    let j = s.first;
-    let k = s.second;
-    let l = s.third;
+    let j = s.0;
+    let k = s.1;
+    let l = s.2;
     let p = at + 1;
     let q = p + forms::width(j);
     let r = q + forms::width(k);

@@ -52,21 +52,21 @@ number-end k v p = p .ends ∙ rw in-bytes-length
 -- ---- A step: the command byte and the three numbers, in room for them
 
 module _ {l l₁ : List ℕ} {a a₁ : ℕ} (c x y z : ℕ) (s : Kinds) (h : Has c s) (p₀ : Wrote l a (c % 256 ∷ []) 1 a₁ l₁) where
-  pub room-first : a + length (step-bytes (step c x y z)) ≤ length l → a₁ + slot-width (operand-of (s .first)) ≤ length l₁
+  pub room-first : a + length (step-bytes (step c x y z)) ≤ length l → a₁ + slot-width (operand-of (s .0)) ≤ length l₁
   room-first r = omega (arith, size-by c x y z s h, wrote-length p₀)
 
-  module _ {l₂ : List ℕ} {a₂ : ℕ} (p₁ : Wrote l₁ a₁ (in-bytes (slot-width (operand-of (s .first))) x) 4 a₂ l₂) where
-    pub room-second : a + length (step-bytes (step c x y z)) ≤ length l → a₂ + slot-width (operand-of (s .second)) ≤ length l₂
-    room-second r = omega (arith, size-by c x y z s h, wrote-length p₀, wrote-length p₁, number-end (s .first) x p₁)
+  module _ {l₂ : List ℕ} {a₂ : ℕ} (p₁ : Wrote l₁ a₁ (in-bytes (slot-width (operand-of (s .0))) x) 4 a₂ l₂) where
+    pub room-second : a + length (step-bytes (step c x y z)) ≤ length l → a₂ + slot-width (operand-of (s .1)) ≤ length l₂
+    room-second r = omega (arith, size-by c x y z s h, wrote-length p₀, wrote-length p₁, number-end (s .0) x p₁)
 
-    module _ {l₃ : List ℕ} {a₃ : ℕ} (p₂ : Wrote l₂ a₂ (in-bytes (slot-width (operand-of (s .second))) y) 4 a₃ l₃) where
-      pub room-third : a + length (step-bytes (step c x y z)) ≤ length l → a₃ + slot-width (operand-of (s .third)) ≤ length l₃
-      room-third r = omega (arith, size-by c x y z s h, wrote-length p₀, wrote-length p₁, wrote-length p₂, number-end (s .first) x p₁, number-end (s .second) y p₂)
+    module _ {l₃ : List ℕ} {a₃ : ℕ} (p₂ : Wrote l₂ a₂ (in-bytes (slot-width (operand-of (s .1))) y) 4 a₃ l₃) where
+      pub room-third : a + length (step-bytes (step c x y z)) ≤ length l → a₃ + slot-width (operand-of (s .2)) ≤ length l₃
+      room-third r = omega (arith, size-by c x y z s h, wrote-length p₀, wrote-length p₁, wrote-length p₂, number-end (s .0) x p₁, number-end (s .1) y p₂)
 
-      text : c < 256 → step-bytes (step c x y z) ≡ (c % 256 ∷ []) ++ in-bytes (slot-width (operand-of (s .first))) x ++ in-bytes (slot-width (operand-of (s .second))) y ++ in-bytes (slot-width (operand-of (s .third))) z
-      text small = step-bytes-by c x y z ∙ rw (← h .first, ← h .second, ← h .third, mod-eq-of-lt small) (ap (λ (t : List ℕ). c ∷ t) (sym (append-assoc (in-bytes (slot-width (operand-of (s .first))) x) (in-bytes (slot-width (operand-of (s .second))) y) (in-bytes (slot-width (operand-of (s .third))) z))))
+      text : c < 256 → step-bytes (step c x y z) ≡ (c % 256 ∷ []) ++ in-bytes (slot-width (operand-of (s .0))) x ++ in-bytes (slot-width (operand-of (s .1))) y ++ in-bytes (slot-width (operand-of (s .2))) z
+      text small = step-bytes-by c x y z ∙ rw (← h .first, ← h .second, ← h .third, mod-eq-of-lt small) (ap (λ (t : List ℕ). c ∷ t) (sym (append-assoc (in-bytes (slot-width (operand-of (s .0))) x) (in-bytes (slot-width (operand-of (s .1))) y) (in-bytes (slot-width (operand-of (s .2))) z))))
 
-      pub step-wrote : {l₄ : List ℕ} {a₄ : ℕ} → c < 256 → Wrote l₃ a₃ (in-bytes (slot-width (operand-of (s .third))) z) 4 a₄ l₄ → Wrote l a (step-bytes (step c x y z)) 13 a₄ l₄
+      pub step-wrote : {l₄ : List ℕ} {a₄ : ℕ} → c < 256 → Wrote l₃ a₃ (in-bytes (slot-width (operand-of (s .2))) z) 4 a₄ l₄ → Wrote l a (step-bytes (step c x y z)) 13 a₄ l₄
       step-wrote small p₃ =
           let all = wrote-then (wrote-then (wrote-then p₀ p₁) p₂) p₃ in
           let e = text small in

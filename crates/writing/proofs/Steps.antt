@@ -15,38 +15,38 @@ use Rattle.forms.proofs.Slots.{step, check-unknown, check-known, unknown-number
 use Rattle.writing.specs.Meaning.{number-of}
 
 module _ (n m c x y z : ℕ) (r : Kinds) (h : Has c r) where
-  pub step-unknown : is-present (operand-of (r .first)) ≡ false → 2 ≡ number-of (check-step n m (step c x y z))
+  pub step-unknown : is-present (operand-of (r .0)) ≡ false → 2 ≡ number-of (check-step n m (step c x y z))
   step-unknown e = rw (check-unknown n m c x y z (rw (h .first) at e))
 
-  module _ (e : is-present (operand-of (r .first)) ≡ true) where
+  module _ (e : is-present (operand-of (r .0)) ≡ true) where
     known : check-step n m (step c x y z)
-        ≡ cond (ltb x (slot-limit n m (operand-of (r .first))) && (ltb y (slot-limit n m (operand-of (r .second))) && ltb z (slot-limit n m (operand-of (r .third))))) pass (refuse 4)
+        ≡ cond (ltb x (slot-limit n m (operand-of (r .0))) && (ltb y (slot-limit n m (operand-of (r .1))) && ltb z (slot-limit n m (operand-of (r .2))))) pass (refuse 4)
     known = rw (h .first, h .second, h .third) (check-known n m c x y z (rw (h .first) at e))
 
-    pub first-bad : slot-limit n m (operand-of (r .first)) ≤ x → 4 ≡ number-of (check-step n m (step c x y z))
+    pub first-bad : slot-limit n m (operand-of (r .0)) ≤ x → 4 ≡ number-of (check-step n m (step c x y z))
     first-bad l = rw (known, le-ltb x _ l)
 
-    module _ (f : x < slot-limit n m (operand-of (r .first))) where
-      pub second-bad : slot-limit n m (operand-of (r .second)) ≤ y → 4 ≡ number-of (check-step n m (step c x y z))
+    module _ (f : x < slot-limit n m (operand-of (r .0))) where
+      pub second-bad : slot-limit n m (operand-of (r .1)) ≤ y → 4 ≡ number-of (check-step n m (step c x y z))
       second-bad l = rw (known, lt-ltb x _ f, le-ltb y _ l)
 
-      module _ (s : y < slot-limit n m (operand-of (r .second))) where
-        pub third-bad : slot-limit n m (operand-of (r .third)) ≤ z → 4 ≡ number-of (check-step n m (step c x y z))
+      module _ (s : y < slot-limit n m (operand-of (r .1))) where
+        pub third-bad : slot-limit n m (operand-of (r .2)) ≤ z → 4 ≡ number-of (check-step n m (step c x y z))
         third-bad l = rw (known, lt-ltb x _ f, lt-ltb y _ s, le-ltb z _ l)
 
-        pub none-bad : z < slot-limit n m (operand-of (r .third)) → 0 ≡ number-of (check-step n m (step c x y z))
+        pub none-bad : z < slot-limit n m (operand-of (r .2)) → 0 ≡ number-of (check-step n m (step c x y z))
         none-bad l = rw (known, lt-ltb x _ f, lt-ltb y _ s, lt-ltb z _ l)
 
 -- ---- A step cut short
 
 module _ (n m c : ℕ) (vs : List ℕ) (r : Kinds) (h : Has c r) where
-  pub cut-unknown : is-present (operand-of (r .first)) ≡ false → 2 ≡ number-of (check-step n m (record { number = c; operands = vs }))
+  pub cut-unknown : is-present (operand-of (r .0)) ≡ false → 2 ≡ number-of (check-step n m (record { number = c; operands = vs }))
   cut-unknown e = rw (unknown-number c (rw (h .first) at e))
 
-  pub cut-known : is-present (operand-of (r .first)) ≡ true → length vs < 3 → 4 ≡ number-of (check-step n m (record { number = c; operands = vs }))
+  pub cut-known : is-present (operand-of (r .0)) ≡ true → length vs < 3 → 4 ≡ number-of (check-step n m (record { number = c; operands = vs }))
   cut-known e l = present-form c (rw (h .first) at e) (λ f q. rw (q, ne-eqb (length vs) 3 (λ s. omega arith)))
 
 -- ---- Its size
 
-pub size-by : (c x y z : ℕ) (r : Kinds) → Has c r → 1 + (slot-width (operand-of (r .first)) + (slot-width (operand-of (r .second)) + slot-width (operand-of (r .third)))) ≡ length (step-bytes (step c x y z))
+pub size-by : (c x y z : ℕ) (r : Kinds) → Has c r → 1 + (slot-width (operand-of (r .0)) + (slot-width (operand-of (r .1)) + slot-width (operand-of (r .2)))) ≡ length (step-bytes (step c x y z))
 size-by c x y z r h = omega (arith, has-widths h .sum, step-size c x y z)

@@ -16,29 +16,25 @@ use Rattle.text.specs.Wrote.{Wrote}
 use Rattle.text.proofs.Writing.{wrote-as, wrote-then, wrote-length, wrote-front}
 use Rattle.writing.specs.declared.Sized.{Sized}
 use Rattle.writing.specs.declared.Sized.the-variants.{Steps, Refused}
-use Rattle.writing.specs.Meaning.{heading-of, too-many, Sizes, steps-of, Passes}
+use Rattle.writing.specs.Meaning.{heading-of, too-many, Sizes, steps-of, session-of, Passes}
 use Rattle.writing.proofs.Headings.{fits-has}
 
--- the bytes of a session
-abbrev whole : (n m : ℕ) (o ws : List ℕ) → List ℕ
-whole n m o ws = session-bytes (heading-of n m o) (instructions ws)
-
-whole-length : (n m : ℕ) (o ws : List ℕ) → length (whole n m o ws) ≡ 2 + (length o + length (steps-of ws))
+whole-length : (n m : ℕ) (o ws : List ℕ) → length (session-of n m o ws) ≡ 2 + (length o + length (steps-of ws))
 whole-length n m o ws = omega (arith, length-append o (steps-of ws))
 
 -- ---- Its parts, in room for all
 
 module _ (n m : ℕ) (o ws : List ℕ) {l l₁ l₂ : List ℕ} {a₁ a₂ : ℕ} (p₀ : Wrote l 0 (n % 256 ∷ []) 1 a₁ l₁) (p₁ : Wrote l₁ a₁ (m % 256 ∷ []) 1 a₂ l₂) where
-  pub owners-room : length (whole n m o ws) ≤ length l → a₂ + length o ≤ length l₂
+  pub owners-room : length (session-of n m o ws) ≤ length l → a₂ + length o ≤ length l₂
   owners-room r = omega (arith, wrote-length p₀, wrote-length p₁, length-append o (steps-of ws))
 
   module _ {l₃ : List ℕ} {a₃ : ℕ} (p₂ : Wrote l₂ a₂ o (length o) a₃ l₃) where
-    pub steps-room : length (whole n m o ws) ≤ length l → a₃ + length (steps-of ws) ≤ length l₃
+    pub steps-room : length (session-of n m o ws) ≤ length l → a₃ + length (steps-of ws) ≤ length l₃
     steps-room r = omega (arith, wrote-length p₀, wrote-length p₁, wrote-length p₂, length-append o (steps-of ws))
 
-    pub whole-wrote : {l₄ : List ℕ} {a₄ : ℕ} → n < 256 → m < 256 → Wrote l₃ a₃ (steps-of ws) (length (steps-of ws)) a₄ l₄ → Wrote l 0 (whole n m o ws) (2 + (length o + length (steps-of ws))) a₄ l₄
+    pub whole-wrote : {l₄ : List ℕ} {a₄ : ℕ} → n < 256 → m < 256 → Wrote l₃ a₃ (steps-of ws) (length (steps-of ws)) a₄ l₄ → Wrote l 0 (session-of n m o ws) (length (session-of n m o ws)) a₄ l₄
     whole-wrote h k p₃ =
-        let text : (n % 256 ∷ []) ++ (m % 256 ∷ []) ++ o ++ steps-of ws ≡ whole n m o ws = rw (mod-eq-of-lt h, mod-eq-of-lt k) in
+        let text : (n % 256 ∷ []) ++ (m % 256 ∷ []) ++ o ++ steps-of ws ≡ session-of n m o ws = rw (mod-eq-of-lt h, mod-eq-of-lt k) in
         wrote-as text (omega (arith, whole-length n m o ws)) (wrote-then (wrote-then (wrote-then p₀ p₁) p₂) p₃)
 
 -- ---- The answers
@@ -66,36 +62,36 @@ module _ (n m : ℕ) (o ws room : List ℕ) where
       pub total-small : t ≤ too-many
       total-small = omega (arith, passed .1 .1)
 
-      size-of : 2 + m + t ≤ max-session → length (whole n m o ws) ≡ 2 + m + t
+      size-of : 2 + m + t ≤ max-session → length (session-of n m o ws) ≡ 2 + m + t
       size-of h = omega (arith, whole-length n m o ws, fits-has n m o f .count, passed .1 .1)
 
       pub too-long : max-session < 2 + m + t → answers (record { outcome = refuse-with (at q 1); room = room })
       unfolding write-call write
       too-long h =
-          let long : max-session < length (whole n m o ws) = omega (arith, whole-length n m o ws, fits-has n m o f .count, passed .1 .1) in
-          rw (f, passed .0, lt-leb (length (whole n m o ws)) max-session long, ← passed .1 .0)
+          let long : max-session < length (session-of n m o ws) = omega (arith, whole-length n m o ws, fits-has n m o f .count, passed .1 .1) in
+          rw (f, passed .0, lt-leb (length (session-of n m o ws)) max-session long, ← passed .1 .0)
 
       module _ (h : 2 + m + t ≤ max-session) where
         -- a session that is written if there is room
-        into : write-call (heading-of n m o) (instructions ws) room ≡ write-into (bytes (whole n m o ws)) room
+        into : write-call (heading-of n m o) (instructions ws) room ≡ write-into (bytes (session-of n m o ws)) room
         unfolding write-call
         into = ap (λ (w : Written). write-into w room) (writes (heading-of n m o) (instructions ws) f (passed .0) (omega (arith, size-of h)))
 
         pub no-room : length room < 2 + m + t → answers (record { outcome = refuse-with (at (2 + m + t) 15); room = room })
         no-room l =
-            let short : length room < length (whole n m o ws) = omega (arith, size-of h) in
-            sym (into ∙ rw (lt-ltb (length room) (length (whole n m o ws)) short) (ap (λ (x : ℕ). record { outcome = refuse-with (at x 15); room = room }) (size-of h)))
+            let short : length room < length (session-of n m o ws) = omega (arith, size-of h) in
+            sym (into ∙ rw (lt-ltb (length room) (length (session-of n m o ws)) short) (ap (λ (x : ℕ). record { outcome = refuse-with (at x 15); room = room }) (size-of h)))
 
-        pub fits-room : 2 + m + t ≤ length room → length (whole n m o ws) ≤ length room
+        pub fits-room : 2 + m + t ≤ length room → length (session-of n m o ws) ≤ length room
         fits-room l = omega (arith, size-of h)
 
-        pub written : {k : List ℕ} {u : ℕ} → 2 + m + t ≤ length room → Wrote room 0 (whole n m o ws) (2 + (length o + length (steps-of ws))) u k → answers (record { outcome = wrote u; room = k })
+        pub written : {k : List ℕ} {u : ℕ} → 2 + m + t ≤ length room → Wrote room 0 (session-of n m o ws) (length (session-of n m o ws)) u k → answers (record { outcome = wrote u; room = k })
         written {k} {u} l w =
             let e = wrote-front w (omega (arith, whole-length n m o ws, size-of h)) in
-            let size : u ≡ length (whole n m o ws) = ap (λ (x : Filled). x .size) e in
-            let text : k ≡ whole n m o ws ++ drop (length (whole n m o ws)) room = ap (λ (x : Filled). x .buffer) e in
-            let long : length (whole n m o ws) ≤ length room = fits-room l in
-            sym (into ∙ rw (le-ltb (length room) (length (whole n m o ws)) long) (λ i. record { outcome = wrote (sym size i); room = sym text i }))
+            let size : u ≡ length (session-of n m o ws) = ap (λ (x : Filled). x .size) e in
+            let text : k ≡ session-of n m o ws ++ drop (length (session-of n m o ws)) room = ap (λ (x : Filled). x .buffer) e in
+            let long : length (session-of n m o ws) ≤ length room = fits-room l in
+            sym (into ∙ rw (le-ltb (length room) (length (session-of n m o ws)) long) (λ i. record { outcome = wrote (sym size i); room = sym text i }))
 
-        pub written-small : {k : List ℕ} {u : ℕ} → Wrote room 0 (whole n m o ws) (2 + (length o + length (steps-of ws))) u k → u ≤ max-session
+        pub written-small : {k : List ℕ} {u : ℕ} → Wrote room 0 (session-of n m o ws) (length (session-of n m o ws)) u k → u ≤ max-session
         written-small w = omega (arith, w .ends, size-of h)

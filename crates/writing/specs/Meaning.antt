@@ -33,6 +33,10 @@ Sizes n m is (Refused p e) = rules.steps-refusal n m 0 is ≡ some (rules.at p e
 abbrev pub steps-of : List ℕ → List ℕ
 steps-of ws = rules.steps-bytes (rules.instructions ws)
 
+-- the bytes of a session
+abbrev pub session-of : (nodes sheets : ℕ) → (owners words : List ℕ) → List ℕ
+session-of n m o ws = rules.session-bytes (heading-of n m o) (rules.instructions ws)
+
 -- none of the steps is refused, by the counts of some header
 abbrev pub Passes : List ℕ → Type 0
 Passes ws = (n : ℕ) × ((m : ℕ) × (rules.steps-refusal n m 0 (rules.instructions ws) ≡ none))

@@ -12,7 +12,7 @@ ghost use Rattle.rules.specs.Writing as rules;
 ghost use Rattle.forms.specs.Slots.{operand-of, slot-width};
 ghost use Rattle.forms.proofs.Slots.{step};
 ghost use Rattle.text.specs.Wrote.{Wrote};
-ghost use Rattle.writing.specs.Meaning.{heading-of, number-of, Sizes, steps-of, Passes, outcome-of, too-many, Small};
+ghost use Rattle.writing.specs.Meaning.{heading-of, number-of, Sizes, steps-of, session-of, Passes, outcome-of, too-many, Small};
 
 const MAX_SESSION: usize = 16384;
 
@@ -75,9 +75,9 @@ fn step_refusal(nodes: u64, sheets: u64, c: u32, x: u32, y: u32, z: u32) -> u8
     ensures { λ r. ⌜ r ≡ number-of (rules.check-step nodes sheets (step c x y z)) ⌝ }
 {
     let s = forms::shape(c);
-    let j = s.first;
-    let k = s.second;
-    let l = s.third;
+    let j = s.0;
+    let k = s.1;
+    let l = s.2;
     if !forms::present(j) {
         return 2;
     }
@@ -98,7 +98,7 @@ fn cut_refusal(c: u32) -> u8
     ensures { λ r. ⌜ ((n m : ℕ) (vs : List ℕ) → length vs < 3 → r ≡ number-of (rules.check-step n m (record { number = c; operands = vs }))) ⌝ }
 {
     let s = forms::shape(c);
-    let j = s.first;
+    let j = s.0;
     if forms::present(j) {
         return 4;
     }
@@ -181,9 +181,9 @@ fn put_step(buf: &mut [u8], at: usize, c: u32, x: u32, y: u32, z: u32) -> usize
     ensures { λ r. ⌜ Wrote (now (buf .entry)) at (rules.step-bytes (step c x y z)) 13 r (now (buf .exit)) ⌝ }
 {
     let s = forms::shape(c);
-    let j = s.first;
-    let k = s.second;
-    let l = s.third;
+    let j = s.0;
+    let k = s.1;
+    let l = s.2;
     let e = put(buf, at, (c % 256) as u8);
     let f = put_number(buf, e, j, x);
     let g = put_number(buf, f, k, y);
@@ -226,10 +226,10 @@ fn put_session(
     owners: &[u8],
     steps: &[u32],
 ) -> usize
-    requires { ⌜ (nodes < 256) × (sheets < 256) × Passes (now steps) × (length (rules.session-bytes (heading-of nodes sheets (now owners)) (rules.instructions (now steps))) ≤ length (now session)) ⌝ }
+    requires { ⌜ (nodes < 256) × (sheets < 256) × Passes (now steps) × (length (session-of nodes sheets (now owners) (now steps)) ≤ length (now session)) ⌝ }
     ensures { λ r. ⌜
-        Wrote (now (session .entry)) 0 (rules.session-bytes (heading-of nodes sheets (now (owners .entry))) (rules.instructions (now (steps .entry))))
-        (2 + (length (now (owners .entry)) + length (steps-of (now (steps .entry))))) r (now (session .exit))
+        Wrote (now (session .entry)) 0 (session-of nodes sheets (now (owners .entry)) (now (steps .entry)))
+        (length (session-of nodes sheets (now (owners .entry)) (now (steps .entry)))) r (now (session .exit))
         ⌝ }
 {
     let a = put(session, 0, (nodes % 256) as u8);
