@@ -15,7 +15,7 @@ use Rattle.rules.proofs.Table.{same?, below?, clash}
 use Rattle.rules.proofs.Writing.{All, in-table, few-operands, operand-bytes-length}
 use Rattle.forms.specs.declared.Kind.{Kind}
 use Rattle.forms.specs.declared.Kinds.{Kinds}
-use Rattle.forms.specs.Slots.{operand-of, slot, operands, Has, is-present, slot-limit, slot-width, value}
+use Rattle.forms.specs.Slots.{three, step, operand-of, slot, operands, Has, is-present, slot-limit, slot-width, value}
 
 -- ---- Numbers that are no command's
 
@@ -58,9 +58,6 @@ number-small c f e = below? 8 c (λ l. absurd (differs (sym (none-of c commands 
     differs q = let z : _≡_ {A = ℕ} 0 1 = cc in omega arith
 
 -- ---- The operands of three slots
-
-abbrev pub three : ℕ → ℕ → ℕ → List ℕ
-three x y z = x ∷ y ∷ z ∷ []
 
 zero-below : (v : ℕ) → eqb v 0 ≡ ltb v 1
 zero-below zero = refl
@@ -119,10 +116,6 @@ unknown-number c e = by (form c) refl
     by : (o : Option Form) → form c ≡ o → form c ≡ none
     by none q = q
     by (some f) q = clash (is-present (slot (f .operands) 0)) (some-operand c f q) (rw q at e)
-
--- step c x y z
-abbrev pub step : (c x y z : ℕ) → Instruction
-step c x y z = record { number = c; operands = three x y z }
 
 module _ (n m c x y z : ℕ) where
   pub check-unknown : is-present (slot (operands c) 0) ≡ false → check-step n m (step c x y z) ≡ refuse 2

@@ -6,10 +6,20 @@ use mathlib.Core.List.{List, [], _∷_}
 use mathlib.Core.Option.{Option, none, some}
 use lib.ListN.{take}
 use Rattle.rules.specs.Bytes.{Operand, save, sheet, node, content, width, limit, big-endian}
-use Rattle.rules.specs.Writing.{form, operands-in}
+use Rattle.rules.specs.Writing.{Instruction, form, operands-in}
 use Rattle.forms.specs.declared.Kind.{Kind}
 use Rattle.forms.specs.declared.Kind.the-variants.{Save, Sheet, Node, Content, Absent}
 use Rattle.forms.specs.declared.Kinds.{Kinds}
+
+-- ---- A step by its numbers
+
+abbrev pub three : (x y z : ℕ) → List ℕ
+three x y z = x ∷ y ∷ z ∷ []
+
+abbrev pub step : (c x y z : ℕ) → Instruction
+step c x y z = record { number = c; operands = three x y z }
+
+-- ---- What stands at a slot
 
 abbrev pub operand-of : Kind → Option Operand
 operand-of Save = some save

@@ -14,8 +14,8 @@ use Rattle.rules.specs.Writing.{operands-fit, numbers}
 use Rattle.wire.specs.Meaning.{contents}
 use Rattle.wire.proofs.Front.{first-byte, four-bytes}
 use Rattle.forms.specs.declared.Kinds.{Kinds}
-use Rattle.forms.specs.Slots.{operand-of, slot, operands, Has, is-present, slot-limit, slot-width, value}
-use Rattle.forms.proofs.Slots.{three, step, numbers-by, few, unknown-number, present-form, has-widths, fits-by}
+use Rattle.forms.specs.Slots.{three, step, operand-of, slot, operands, Has, is-present, slot-limit, slot-width, value}
+use Rattle.forms.proofs.Slots.{numbers-by, few, unknown-number, present-form, has-widths, fits-by}
 use Rattle.listing.specs.Meaning.{earned, step-at}
 
 -- ---- The number at a slot

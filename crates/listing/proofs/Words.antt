@@ -5,7 +5,7 @@ use mathlib.Core.List.{List, [], _∷_}
 use native.Mathlib.Omega.{arith}
 use lib.ListN.{set}
 use Rattle.rules.specs.Writing.{Instruction, words}
-use Rattle.forms.proofs.Slots.{step}
+use Rattle.forms.specs.Slots.{step}
 use Rattle.text.specs.Wrote.{Wrote}
 
 pub four-wrote : (l : List ℕ) (i c x y z : ℕ) → Wrote l i (words (step c x y z ∷ [])) 4 (i + 4) (set (set (set (set l i c) (i + 1) x) (i + 2) y) (i + 3) z)

@@ -7,9 +7,8 @@ ghost use Prim.Native.Nat.{_+_, _<_, _≤_};
 ghost use lib.ListN.{length, getD, drop};
 ghost use Rattle.rules.specs.Bytes.{widths};
 ghost use Rattle.rules.specs.Writing as rules;
-ghost use Rattle.forms.specs.Slots.{operand-of, slot-width, operands, value};
+ghost use Rattle.forms.specs.Slots.{step, operand-of, slot-width, operands, value};
 ghost use mathlib.Core.List.{[], _∷_};
-ghost use Rattle.forms.proofs.Slots.{step};
 ghost use Rattle.text.specs.Wrote.{Wrote};
 ghost use Rattle.listing.specs.Meaning.{earned, step-at, from, Counts, Fits, Stored, outcome-of, Few, Small};
 

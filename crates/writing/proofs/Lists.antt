@@ -12,8 +12,8 @@ use Rattle.rules.specs.Bytes.{Form, widths}
 use Rattle.rules.specs.Steps.{Checked, pass, refuse}
 use Rattle.rules.specs.Writing.{Instruction, at, operands-fit, form, check-by, check-step, steps-refusal, step-bytes, steps-bytes, instructions}
 use Rattle.rules.proofs.Table.{bool}
-use Rattle.forms.specs.Slots.{operands}
-use Rattle.forms.proofs.Slots.{step, step-size}
+use Rattle.forms.specs.Slots.{step, operands}
+use Rattle.forms.proofs.Slots.{step-size}
 use Rattle.writing.specs.declared.Sized.the-variants.{Steps, Refused}
 use Rattle.writing.specs.Meaning.{number-of, too-many, Sizes}
 

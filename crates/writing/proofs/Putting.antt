@@ -10,8 +10,8 @@ use Rattle.rules.proofs.Numbers.{in-bytes-length}
 use Rattle.forms.specs.declared.Kind.{Kind}
 use Rattle.forms.specs.declared.Kind.the-variants.{Content, Absent}
 use Rattle.forms.specs.declared.Kinds.{Kinds}
-use Rattle.forms.specs.Slots.{operand-of, Has, slot-width}
-use Rattle.forms.proofs.Slots.{step, step-bytes-by}
+use Rattle.forms.specs.Slots.{step, operand-of, Has, slot-width}
+use Rattle.forms.proofs.Slots.{step-bytes-by}
 use Rattle.writing.proofs.Steps.{size-by}
 use Rattle.text.specs.Wrote.{Wrote}
 use Rattle.text.proofs.Writing.{wrote-as, wrote-then, wrote-none, wrote-length}

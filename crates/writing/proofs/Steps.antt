@@ -10,8 +10,8 @@ use lib.ListN.{length}
 use Rattle.rules.specs.Steps.{pass, refuse}
 use Rattle.rules.specs.Writing.{check-step, step-bytes}
 use Rattle.forms.specs.declared.Kinds.{Kinds}
-use Rattle.forms.specs.Slots.{operand-of, operands, Has, is-present, slot-limit, slot-width}
-use Rattle.forms.proofs.Slots.{step, check-unknown, check-known, unknown-number, present-form, step-size, has-widths}
+use Rattle.forms.specs.Slots.{step, operand-of, operands, Has, is-present, slot-limit, slot-width}
+use Rattle.forms.proofs.Slots.{check-unknown, check-known, unknown-number, present-form, step-size, has-widths}
 use Rattle.writing.specs.Meaning.{number-of}
 
 module _ (n m c x y z : ℕ) (r : Kinds) (h : Has c r) where

@@ -9,8 +9,7 @@ ghost use lib.Dec.{ltb};
 ghost use Rattle.rules.specs.Table.{all};
 ghost use Rattle.rules.specs.Bytes.{byte};
 ghost use Rattle.rules.specs.Writing as rules;
-ghost use Rattle.forms.specs.Slots.{operand-of, slot-width};
-ghost use Rattle.forms.proofs.Slots.{step};
+ghost use Rattle.forms.specs.Slots.{step, operand-of, slot-width};
 ghost use Rattle.text.specs.Wrote.{Wrote};
 ghost use Rattle.writing.specs.Meaning.{heading-of, number-of, Sizes, steps-of, session-of, Passes, outcome-of, too-many, Small};
 
