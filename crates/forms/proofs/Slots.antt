@@ -10,29 +10,29 @@ use lib.Dec.{eqb, ltb}
 use lib.ListN.{length, drop}
 use Rattle.rules.specs.Bytes.{Operand, save, sheet, node, content, Form, form-of, commands, widths}
 use Rattle.rules.specs.Steps.{pass, refuse}
-use Rattle.rules.specs.Writing.{Instruction, form, operands-in, step-bytes, slots, operands-fit, check-step, in-bytes, operand-bytes, numbers}
+use Rattle.rules.specs.Writing.{form, operands-in, step-bytes, slots, operands-fit, check-step, in-bytes, operand-bytes, numbers}
 use Rattle.rules.proofs.Table.{same?, below?, clash}
 use Rattle.rules.proofs.Writing.{All, in-table, few-operands, operand-bytes-length}
+use Rattle.wire.proofs.Front.{Not-to}
 use Rattle.forms.specs.declared.Kind.{Kind}
 use Rattle.forms.specs.declared.Kinds.{Kinds}
 use Rattle.forms.specs.Slots.{three, step, operand-of, slot, operands, Has, is-present, slot-limit, slot-width, value}
 
 -- ---- Numbers that are no command's
 
--- what a `match` knows of c behind its arms 1 to k
-abbrev pub Not-to : ℕ → ℕ → Type 0
-Not-to c zero = Unit {0}
-Not-to c (suc k) = Not-to c k × (c ≡ suc k → ⊥)
+-- the largest number of a command
+abbrev pub last-number : ℕ
+last-number = 8
 
 apart : (c k j : ℕ) → Not-to c k → 1 ≤ j → j ≤ k → j ≡ c → ⊥
 apart c zero j n l h e = omega arith
 apart c (suc k) j n l h e = same? j (suc k) (λ q. n .1 (sym e ∙ q)) (λ q. apart c k j (n .0) l (omega arith) e)
 
-none-of : (c : ℕ) (fs : List Form) → All (λ f. (1 ≤ f .number) × (f .number ≤ 8)) fs → Not-to c 8 → form-of c fs ≡ none
+none-of : (c : ℕ) (fs : List Form) → All (λ f. (1 ≤ f .number) × (f .number ≤ last-number)) fs → Not-to c last-number → form-of c fs ≡ none
 none-of c [] a n = refl
-none-of c (f ∷ fs) a n = rw (ne-eqb (f .number) c (apart c 8 (f .number) n (a .0 .0) (a .0 .1))) (none-of c fs (a .1) n)
+none-of c (f ∷ fs) a n = rw (ne-eqb (f .number) c (apart c last-number (f .number) n (a .0 .0) (a .0 .1))) (none-of c fs (a .1) n)
 
-pub absent : (c i : ℕ) → Not-to c 8 → none ≡ slot (operands c) i
+pub absent : (c i : ℕ) → Not-to c last-number → none ≡ slot (operands c) i
 unfolding operands form
 absent c i n = rw (none-of c commands (search arith) n)
 
@@ -50,9 +50,9 @@ above : (c k : ℕ) → k < c → Not-to c k
 above c zero l = tt
 above c (suc k) l = (above c k (omega arith), λ e. omega arith)
 
-pub number-small : (c : ℕ) (f : Form) → form c ≡ some f → c ≤ 8
+pub number-small : (c : ℕ) (f : Form) → form c ≡ some f → c ≤ last-number
 unfolding form
-number-small c f e = below? 8 c (λ l. absurd (differs (sym (none-of c commands (search arith) (above c 8 l)) ∙ e))) (λ l. l)
+number-small c f e = below? last-number c (λ l. absurd (differs (sym (none-of c commands (search arith) (above c last-number l)) ∙ e))) (λ l. l)
   where
     differs : none ≡ some f → ⊥
     differs q = let z : _≡_ {A = ℕ} 0 1 = cc in omega arith

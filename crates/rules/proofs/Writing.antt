@@ -197,14 +197,27 @@ opened b e =
     record { size = leb-true (length b) max-session (and-l s f sf); fits = leb-true (header-size b) (length b) (and-r s f sf); ranges = and-r (s && f) (in-range (header b)) e }
 
 -- the counts of a header in range
-pub ranged : (h : Header) → in-range h ≡ true → (h .nodes ≤ max-nodes) × (h .sheets ≤ max-sheets)
+pub record Ranged (h : Header) : Type 0 where
+  pub some-node : 1 ≤ h .nodes
+  pub nodes : h .nodes ≤ max-nodes
+  pub some-sheet : 1 ≤ h .sheets
+  pub sheets : h .sheets ≤ max-sheets
+
+pub ranged : (h : Header) → in-range h ≡ true → Ranged h
 ranged h e =
     let n0 = leb 1 (h .nodes) in
     let n1 = leb (h .nodes) max-nodes in
     let m0 = leb 1 (h .sheets) in
     let m1 = leb (h .sheets) max-sheets in
     let nm = and-l ((n0 && n1) && (m0 && m1)) _ e in
-    (leb-true (h .nodes) max-nodes (and-r n0 n1 (and-l (n0 && n1) (m0 && m1) nm)), leb-true (h .sheets) max-sheets (and-r m0 m1 (and-r (n0 && n1) (m0 && m1) nm)))
+    let n = and-l (n0 && n1) (m0 && m1) nm in
+    let m = and-r (n0 && n1) (m0 && m1) nm in
+    record {
+      some-node = leb-true 1 (h .nodes) (and-l n0 n1 n);
+      nodes = leb-true (h .nodes) max-nodes (and-r n0 n1 n);
+      some-sheet = leb-true 1 (h .sheets) (and-l m0 m1 m);
+      sheets = leb-true (h .sheets) max-sheets (and-r m0 m1 m);
+    }
 
 -- a header and what stands behind it
 two-front : (b : List ℕ) → 2 ≤ length b → byte b 0 ∷ byte b 1 ∷ drop 2 b ≡ b

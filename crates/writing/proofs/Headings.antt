@@ -1,16 +1,17 @@
 -- What a header that fits has.
 use Prim.Native.Nat.{ℕ, _≤_}
 use mathlib.Core.Path.{_≡_, sym}
-use mathlib.Core.Bool.{Bool, true, false, _&&_}
+use mathlib.Core.Bool.{Bool, true, false}
 use mathlib.Core.List.{List}
-use borrow.Author.Tests.{le-leb, leb-true, eq-eqb, eqb-true}
-use lib.Dec.{eqb, leb, ltb}
+use borrow.Author.Tests.{le-leb, eq-eqb, eqb-true}
+use lib.Dec.{eqb, ltb}
 use lib.ListN.{length}
 use Rattle.rules.specs.Sizes.{max-nodes, max-sheets}
 use Rattle.rules.specs.Table.{all}
-use Rattle.rules.specs.Bytes.{byte}
-use Rattle.rules.specs.Writing.{heading-fits}
+use Rattle.rules.specs.Bytes.{byte, in-range}
+use Rattle.rules.specs.Writing.{header-of, heading-fits}
 use Rattle.rules.proofs.Table.{bool, and-l, and-r}
+use Rattle.rules.proofs.Writing.{ranged}
 use Rattle.writing.specs.Meaning.{heading-of}
 
 module _ (n m : ℕ) (o : List ℕ) where
@@ -26,21 +27,10 @@ module _ (n m : ℕ) (o : List ℕ) where
 
   pub fits-has : heading-fits (heading-of n m o) ≡ true → Fits
   fits-has e =
-      let n0 = leb 1 n in
-      let n1 = leb n max-nodes in
-      let m0 = leb 1 m in
-      let m1 = leb m max-sheets in
+      let h = header-of (heading-of n m o) in
       let c = eqb (length o) m in
-      let nm = and-l ((n0 && n1) && (m0 && m1)) (all m owned) (and-r c _ e) in
-      let nn = and-l (n0 && n1) (m0 && m1) nm in
-      let mm = and-r (n0 && n1) (m0 && m1) nm in
-      record {
-        count = eqb-true (length o) m (and-l c _ e);
-        some-node = leb-true 1 n (and-l n0 n1 nn);
-        nodes = leb-true n max-nodes (and-r n0 n1 nn);
-        some-sheet = leb-true 1 m (and-l m0 m1 mm);
-        sheets = leb-true m max-sheets (and-r m0 m1 mm);
-      }
+      let r = ranged h (and-r c (in-range h) e) in
+      record { count = eqb-true (length o) m (and-l c (in-range h) e); some-node = r .some-node; nodes = r .nodes; some-sheet = r .some-sheet; sheets = r .sheets }
 
   pub unfit : (Fits → ⊥) → false ≡ heading-fits (heading-of n m o)
   unfit f = bool (heading-fits (heading-of n m o)) (λ e. absurd (f (fits-has e))) (λ e. sym e)
