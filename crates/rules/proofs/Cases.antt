@@ -8,7 +8,7 @@ use Rattle.rules.specs.State.{fresh}
 use Rattle.rules.specs.Steps.{x-on, run}
 use Rattle.rules.specs.Calls.{Reply, stop, reply, part, shown}
 use Rattle.rules.specs.Report.{figures, decimal, field, rows, place-line, place-lines, sheet-line, sheet-lines, tally-line, refusal-line, stop-line, state-lines, report}
-use Rattle.rules.specs.Cases.{Case, hex, text, starred, refusals, others}
+use Rattle.rules.specs.Cases.{Case, hex, text, starred, refusals, others, neighbours}
 
 record Told : Type 0 where
   answer : Reply
@@ -22,7 +22,7 @@ abbrev stated : Case → Told
 stated c = record { answer = c .answer; shown-bytes = hex (c .shown); lines = text (c .lines) }
 
 abbrev table : List Case
-table = starred ++ refusals ++ others
+table = starred ++ refusals ++ others ++ neighbours
 
 pub cases : map computed table ≡ map stated table
 unfolding upd upd2 row all any read-from fresh x-on run stop reply part figures decimal field rows place-line place-lines sheet-line sheet-lines tally-line refusal-line stop-line state-lines report

@@ -5,7 +5,7 @@ use Prim.Native.String.{String, [] as end, _∷_ as _then_, _++_}
 use mathlib.Core.Bool.{cond}
 use mathlib.Core.List.{List, [], _∷_}
 use lib.Dec.{eqb, ltb}
-use Rattle.rules.specs.Steps.{invalid, accepted, content-is, took, commits, second-run}
+use Rattle.rules.specs.Steps.{valid, invalid, accepted, content-is, took, commits, second-run}
 use Rattle.rules.specs.Calls.{Reply, no-command, answers, refusal}
 
 -- ---- Texts as bytes
@@ -117,4 +117,40 @@ others =
     ∷ case ("01 02 00 00  01 00  01 01  01 02  02 00 00  03 00 00 00 00 00 01  02 01 00  02 01 01  02 02 01  03 02 01 00 00 00 01  " ++ "04 00  04 01  04 02  05 00  05 00  05 00  06 02") (refusal 48 10) "06 02" "P 0 1 U\nP 1 1 U\nP 2 1 U\nO 0 0 0\nO 1 0 0\nT 15 0 0\nR 48 10\n"
     -- save 0 is committed and not carried out: its X still fails save 1
     ∷ case (fresh ++ "01 00  01 01  02 00 00  02 01 00  03 00 00 00 00 00 01  04 00  04 01  05 00  06 00  05 00") (answers (took 1 invalid)) "" "P 0 1 C\nP 1 1 U\nO 0 0 0\nT 10 1 0\n"
+    ∷ []
+
+-- ---- Request 3
+
+-- Two nodes with a sheet each. Save 0 reads both sheets and writes sheet 0, save 1 reads both and writes sheet 1; both are submitted.
+abbrev crossed : String
+crossed = "02 02 00 01  01 00  01 01  02 00 00  02 00 01  03 00 00 00 00 00 07  02 01 00  02 01 01  03 01 01 00 00 00 09  04 00  04 01  "
+
+-- save 1's second run, from DECIDE to SUBMIT
+abbrev run-again : String
+run-again = "06 01  02 01 00  02 01 01  03 01 01 00 00 00 09  04 01  "
+
+-- one session in two orders: four swaps of neighbours at two nodes lead from the one to the other
+abbrev pub in-one-order : String
+in-one-order = crossed ++ "05 00  05 00  05 01  06 00  05 01  07 00 00  07 01 00  " ++ run-again ++ "07 00 01  07 01 01"
+
+abbrev pub in-another : String
+in-another = crossed ++ "05 01  05 00  05 00  06 00  07 00 00  05 01  07 01 00  " ++ run-again ++ "07 01 01  07 00 01"
+
+abbrev all-taken : String
+all-taken = "P 0 1 U\nP 1 1 U\nO 0 0 0\nO 1 0 0\nT 14 0 0\n"
+
+-- node 0 has taken the only save
+abbrev one-taken : String
+one-taken = "02 02 00 01  01 00  04 00  05 00  "
+
+abbrev pub neighbours : List Case
+neighbours =
+    case in-one-order (answers accepted) "" "P 0 1 C\nP 1 2 C\nO 0 7 1\nO 1 9 1\nT 24 1 1\n"
+    ∷ case in-another (answers accepted) "" "P 0 1 C\nP 1 2 C\nO 0 7 1\nO 1 9 1\nT 24 1 1\n"
+    -- node 0 finds save 1 invalid, node 1 finds it valid, whichever is first; the call's last answer is the last step's
+    ∷ case (crossed ++ "05 00  05 00  05 01  05 01") (answers (took 1 valid)) "" all-taken
+    ∷ case (crossed ++ "05 01  05 01  05 00  05 00") (answers (took 1 invalid)) "" all-taken
+    -- a refused neighbour: the same two answers, but the stop has another offset, and what runs before it is counted
+    ∷ case (one-taken ++ "05 00  05 01") (refusal 10 9) "05 00" "P 0 1 U\nO 0 0 0\nO 1 0 0\nT 3 0 0\nR 10 9\n"
+    ∷ case (one-taken ++ "05 01  05 00") (refusal 12 9) "05 00" "P 0 1 U\nO 0 0 0\nO 1 0 0\nT 4 0 0\nR 12 9\n"
     ∷ []

@@ -9,5 +9,6 @@ pub mod Demand3
 pub mod Calls
 pub mod Writing
 pub mod Report
+pub mod Neighbours
 pub mod Cases
 pub mod WritingCases
