@@ -1,5 +1,5 @@
 //! Compares the engine, linked as a static library, with the model on seeded sessions, each with a
-//! list of steps to be written, and checks demand 3 on each of them.
+//! list of steps to be written and with neighbouring steps swapped, and checks demand 3 on each.
 //!
 //! `fuzz --sessions N --seed S [--prefixes] [--lengths] [--states]`
 //!
@@ -7,12 +7,14 @@
 //! `--lengths` adds every length from 0 to 16,386 bytes; `--states` adds every command in every
 //! state that small sessions reach. The end status is 1 on a difference, on a
 //! broken demand, and where a run of 1,000 sessions or more has left out a refusal, or one of
-//! 20,000 or more a command in some phase of its save, or an outcome of a writing or a reading.
+//! 20,000 or more a command in some phase of its save, an outcome of a writing or a reading, or a
+//! kind of neighbours.
 
 use model::command::{Header, MOST_BYTES};
 use model::demand3::{self, Met};
 use model::engine::{Answer, Phase};
 use model::generate::{self, Input};
+use model::neighbours::every_pair;
 use model::prng::Prng;
 use model::report::{write_report, LEAST_BUFFER};
 use model::session::{coded_answer, Cell, Session};
@@ -22,6 +24,7 @@ use std::process::exit;
 use writing::Tally;
 
 mod engine;
+mod neighbours;
 mod writing;
 
 /// What stands on both sides of a buffer, to see a write outside it.
@@ -35,7 +38,8 @@ const SAMPLE: usize = 40;
 const CELLS: usize = 7 * Phase::ALL.len();
 
 /// From so many sessions on, a refusal or a kind of commit that never occurred is a failure; from so
-/// many, a command that never came in some phase of its save, or an outcome of a writing or reading.
+/// many, a command that never came in some phase of its save, an outcome of a writing or reading, or
+/// a kind of neighbours.
 const ALL_REFUSALS: u64 = 1_000;
 const ALL_CELLS: u64 = 20_000;
 
@@ -56,6 +60,7 @@ struct Counts {
     all_saves: u64,
     longest_queue: usize,
     met: Met,
+    neighbours: neighbours::Counts,
     writing: writing::Counts,
 }
 
@@ -124,10 +129,10 @@ fn arguments() -> Arguments {
 }
 
 fn one_session(seed: u64, prefixes: bool, counts: &mut Counts) -> Result<(), String> {
-    // Neighbouring seeds must not give neighbouring states; and the list is the same whatever is
-    // drawn for the session.
+    // Neighbouring seeds must not give neighbouring states; and the list and the swaps are the same
+    // whatever is drawn for the session.
     let mut seeds = Prng::new(seed);
-    let (mut prng, mut list_prng) = (Prng::new(seeds.draw()), Prng::new(seeds.draw()));
+    let [mut prng, mut list_prng, mut swap_prng] = [(); 3].map(|()| Prng::new(seeds.draw()));
     let Input { session, buffer } = generate::input(&mut prng);
     let (run, met) = demand3::check(&session, &mut prng)
         .map_err(|trouble| format!("demand 3 in the model: {trouble}\n{}", shown(&session)))?;
@@ -138,10 +143,8 @@ fn one_session(seed: u64, prefixes: bool, counts: &mut Counts) -> Result<(), Str
     }
     compared
         .and_then(|()| writing::one_session(&session, &mut prng, &mut counts.writing))
-        .map_err(|trouble| match smallest(&session, &buffer) {
-            Some(smaller) => format!("{trouble}\nsmaller: {smaller}"),
-            None => trouble,
-        })?;
+        .map_err(|trouble| with_smaller(trouble, &session, &buffer))?;
+    neighbours::one_session(&session, &run, &mut swap_prng, &mut counts.neighbours)?;
     count(&session, &run, &buffer, met, counts);
     writing::one_list(&mut list_prng, &mut counts.writing)
 }
@@ -171,17 +174,24 @@ fn every_state(header: &Header, saves: usize) -> Result<(), String> {
     let mut buffer = vec![0; LEAST_BUFFER];
     prng.fill(&mut buffer);
     let mut tried = 0;
+    // One save more than are begun, so that its APPLY is refused with 13.
+    let pairs = every_pair(header, saves + 1);
+    let start = header.bytes();
+    let mut pairs_tried = neighbours::in_state(&start, &Session::run(&start), &pairs)?;
     let (states, whole) = states::explore(header, saves, MOST_STATES, |session, new| {
         tried += 1;
+        let run = Session::run(session);
         if new {
             demand3::check(session, &mut prng).map_err(|trouble| {
                 format!("demand 3 in the model: {trouble}\n{}", shown(session))
             })?;
+            pairs_tried += neighbours::in_state(session, &run, &pairs)?;
         }
-        compare(session, &Session::run(session), &buffer, &mut prng)
+        compare(session, &run, &buffer, &mut prng)
     })?;
     println!(
-        "states: {} nodes, {} sheets, {saves} saves: {tried} commands in {} {states} states",
+        "states: {} nodes, {} sheets, {saves} saves: {tried} commands in {} {states} states, \
+         {pairs_tried} pairs of neighbours",
         header.nodes,
         header.sheets(),
         if whole { "all" } else { "the first" },
@@ -253,6 +263,13 @@ fn compare_prefixes(session: &[u8], run: &Session, prng: &mut Prng) -> Result<u6
         compare_answer(prefix, coded_answer(step.answer), (prefix.len(), 0))?;
     }
     Ok(places.len() as u64)
+}
+
+fn with_smaller(trouble: String, session: &[u8], buffer: &[u8]) -> String {
+    match smallest(session, buffer) {
+        Some(smaller) => format!("{trouble}\nsmaller: {smaller}"),
+        None => trouble,
+    }
 }
 
 /// A smaller session that still differs: its first prefix that does, without the commands that do
@@ -331,6 +348,7 @@ fn count(session: &[u8], run: &Session, buffer: &[u8], met: Met, counts: &mut Co
 
 /// Prints the counts; says whether something never occurred that so many sessions have.
 fn close(counts: &Counts) -> bool {
+    let neighbours_left_out = counts.neighbours.close();
     let outcome_left_out = counts.writing.close();
     println!(
         "met: {} prefixes, {} reads and {} stores against the serial run, {} states with entries, \
@@ -366,8 +384,9 @@ fn close(counts: &Counts) -> bool {
     let refusal_left_out = counts.refusals[1..].contains(&0);
     let commit_left_out = counts.first_commits == 0 || counts.second_commits == 0;
     let cell_left_out = counts.cells.len() < CELLS;
+    let kind_left_out = cell_left_out || outcome_left_out || neighbours_left_out;
     counts.sessions >= ALL_REFUSALS && (refusal_left_out || commit_left_out)
-        || counts.sessions >= ALL_CELLS && (cell_left_out || outcome_left_out)
+        || counts.sessions >= ALL_CELLS && kind_left_out
 }
 
 fn difference(session: &[u8], what: &str, model: &str, engine: &str) -> String {

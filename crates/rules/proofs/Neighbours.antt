@@ -1,7 +1,7 @@
 -- Steps at two nodes may change places: two of them in any state, any number of swaps in a list, and so in a session, whose report stays.
 use Prim.Native.Nat.{ℕ}
 use mathlib.Core.Path.{_≡_, refl, sym, ap, _∙_}
-use mathlib.Core.Bool.{Bool, true, false, not}
+use mathlib.Core.Bool.{true, false}
 use mathlib.Core.Logic.{_≢_}
 use mathlib.Core.List.{List, _∷_, _++_}
 use mathlib.Core.Option.{Option, none, some}
@@ -14,21 +14,12 @@ use Rattle.rules.specs.Steps.{Checked, pass, refuse, check, effect, answ
 use Rattle.rules.specs.Calls.{session-run, stop-by, stop}
 use Rattle.rules.specs.Demand3.{session-commands}
 use Rattle.rules.specs.Report.{state-lines, stop-line, report}
-use Rattle.rules.specs.Neighbours.{node-of, Untouched, OneNode, differ, at-two-nodes, EitherOrder, Neighbours, Swaps, as-it-was, swap, behind, then, SwapsBack, SameEnd, SwappedSteps, SameReport, SessionNeighbours}
+use Rattle.rules.specs.Neighbours.{node-of, Untouched, OneNode, differ, EitherOrder, Neighbours, Swaps, as-it-was, swap, behind, then, SameReport, SessionNeighbours}
 use Rattle.rules.proofs.Table.{bool, clash}
 use Rattle.rules.proofs.Tests.{refuse-pass}
 use Rattle.rules.proofs.Accepted.{run-accepts, run-refuses}
-use Rattle.rules.proofs.Touching.{Work, node, command, as-work, Plan, plan, touch, as-touch, untouched, same-check, same-answer, same-plan, touch-swap}
-
--- two commands at two nodes are two such steps
-at-work : (P : Command → Command → Type 0) → ((v w : Work) → node v ≢ node w → P (command v) (command w)) → (a b : Command) → at-two-nodes a b ≡ true → P a b
-at-work P f a b = go (node-of a) (node-of b) refl refl
-  where
-    go : (x y : Option ℕ) → node-of a ≡ x → node-of b ≡ y → differ x y ≡ true → P a b
-    go (some n) (some m) p q e =
-        as-work (λ c i. i ≢ m → P c b) (λ v. as-work (λ c j. node v ≢ j → P (command v) c) (λ w. f v w) b m q) a n p (eqb-false n m (not-true (eqb n m) e))
-    go (some n) none p q e = clash false e refl
-    go none y p q e = clash false e refl
+use Rattle.rules.proofs.OwnOrder.{own-order}
+use Rattle.rules.proofs.Touching.{Work, node, command, as-work, at-work, plan, touch, as-touch, untouched, same-check, same-answer, same-plan, touch-swap}
 
 -- ---- One step
 
@@ -157,4 +148,11 @@ same-report b b′ e p = whole b e (λ o r.
     (e′, report-whole b′ (p .opened) e′ ∙ ap (λ x. state-lines x ++ stop-line ended) (j .1) ∙ sym (report-whole b o e)))
 
 pub session-neighbours : (b : List ℕ) → SessionNeighbours b
-session-neighbours b = record { one-node = one-node; steps = neighbours; back = λ cs ds. back; lists = λ s cs ds p. same-end p s; reports = same-report b }
+session-neighbours b = record {
+  one-node = one-node;
+  steps = neighbours;
+  back = λ cs ds. back;
+  lists = λ s cs ds p. same-end p s;
+  own-order = own-order;
+  reports = same-report b;
+}

@@ -6,15 +6,16 @@ use mathlib.Core.Path.{_≡_, refl, sym, ap, _∙_, fun-ext}
 use mathlib.Core.Bool.{Bool, true, false, _&&_, _||_, cond, true≢false, or-false}
 use mathlib.Core.Logic.{_≢_}
 use mathlib.Core.List.{List, [], _∷_, _++_}
-use mathlib.Core.Option.{none, some}
+use mathlib.Core.Option.{Option, none, some}
 use native.Mathlib.Omega.{arith}
-use borrow.Author.Tests.{eqb-true, ne-eqb}
+use lib.Dec.{eqb}
+use borrow.Author.Tests.{eqb-true, eqb-false, ne-eqb, not-true}
 use Rattle.rules.specs.Table.{upd, any}
 use Rattle.rules.specs.Bytes.{Command, Begin, Read, Write, Submit, Take, Decide, Apply, GiveUp}
 use Rattle.rules.specs.State.{Sheet, store, State, is-committed, is-written, claims}
 use Rattle.rules.specs.Steps.{mem, without, owns, next, fails-at, finds-invalid, has-entry, check, counted, effect, answer}
-use Rattle.rules.specs.Neighbours.{node-of, Untouched}
-use Rattle.rules.proofs.Table.{bool, same?, upd-same, upd-other, upd-at}
+use Rattle.rules.specs.Neighbours.{node-of, Untouched, differ, at-two-nodes}
+use Rattle.rules.proofs.Table.{bool, clash, same?, upd-same, upd-other, upd-at}
 
 -- ---- The steps at a node
 
@@ -43,6 +44,16 @@ as-work P f (Take m) n e = let z : m ≡ n = cc in rw (← z) (f (take m))
 as-work P f (Decide t) n e = none-some n e
 as-work P f (Apply m t) n e = let z : m ≡ n = cc in rw (← z) (f (apply m t))
 as-work P f (GiveUp t) n e = none-some n e
+
+-- two commands at two nodes are two such steps
+pub at-work : (P : Command → Command → Type 0) → ((v w : Work) → node v ≢ node w → P (command v) (command w)) → (a b : Command) → at-two-nodes a b ≡ true → P a b
+at-work P f a b = go (node-of a) (node-of b) refl refl
+  where
+    go : (x y : Option ℕ) → node-of a ≡ x → node-of b ≡ y → differ x y ≡ true → P a b
+    go (some n) (some m) p q e =
+        as-work (λ c i. i ≢ m → P c b) (λ v. as-work (λ c j. node v ≢ j → P (command v) c) (λ w. f v w) b m q) a n p (eqb-false n m (not-true (eqb n m) e))
+    go (some n) none p q e = clash false e refl
+    go none y p q e = clash false e refl
 
 -- ---- Plans and touches
 

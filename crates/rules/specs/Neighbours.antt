@@ -2,9 +2,9 @@
 -- and no save's phase, and two of them at different nodes may change places.
 use Prim.Native.Nat.{ℕ}
 use mathlib.Core.Path.{_≡_}
-use mathlib.Core.Bool.{Bool, true, false, not}
+use mathlib.Core.Bool.{Bool, true, false, not, _&&_, cond}
 use mathlib.Core.Logic.{_≢_}
-use mathlib.Core.List.{List, _∷_}
+use mathlib.Core.List.{List, [], _∷_, _++_}
 use mathlib.Core.Option.{Option, none, some}
 use lib.Dec.{eqb}
 use Rattle.rules.specs.Bytes.{Command, Begin, Read, Write, Submit, Take, Decide, Apply, GiveUp, ended, header, opens, reading}
@@ -16,7 +16,7 @@ use Rattle.rules.specs.Report.{report}
 
 -- ---- A step at a node
 
--- the node that a command is a step at; the others are none. A command that comes later and keeps to `OneNode` joins here.
+-- the node that a command is a step at; the others are at none. A later command joins by its line here, and all that follows is then claimed of it.
 abbrev pub node-of : Command → Option ℕ
 node-of (Begin t) = none
 node-of (Read t k) = none
@@ -83,6 +83,28 @@ SwapsBack = (cs ds : List Command) → Swaps cs ds → Swaps ds cs
 abbrev pub SameEnd : Type 0
 SameEnd = (s : State) (cs ds : List Command) → Swaps cs ds → run s cs .end ≡ pass → (run s ds .end ≡ pass) × (run s ds .state ≡ run s cs .state)
 
+-- node n's own steps of a list, in their order
+abbrev pub is-at : ℕ → Option ℕ → Bool
+is-at n (some m) = eqb m n
+is-at n none = false
+
+abbrev pub own-steps : ℕ → List Command → List Command
+own-steps n [] = []
+own-steps n (c ∷ cs) = cond (is-at n (node-of c)) (c ∷ own-steps n cs) (own-steps n cs)
+
+-- every command of a list is a step at a node
+abbrev pub at-some : Option ℕ → Bool
+at-some (some n) = true
+at-some none = false
+
+abbrev pub at-nodes : List Command → Bool
+at-nodes [] = true
+at-nodes (c ∷ cs) = at-some (node-of c) && at-nodes cs
+
+-- In a stretch of steps at nodes each node's own order is all that counts: where it is the same, swaps lead from the one to the other.
+abbrev pub OwnOrder : Type 0
+OwnOrder = (cs ds rest : List Command) → at-nodes cs ≡ true → at-nodes ds ≡ true → ((n : ℕ) → own-steps n cs ≡ own-steps n ds) → Swaps (cs ++ rest) (ds ++ rest)
+
 -- ---- Sessions
 
 -- two sessions with one header whose steps are such lists; all of the second's bytes are steps
@@ -102,4 +124,5 @@ pub record SessionNeighbours (b : List ℕ) : Type 0 where
   pub steps : Neighbours
   pub back : SwapsBack
   pub lists : SameEnd
+  pub own-order : OwnOrder
   pub reports : SameReport b

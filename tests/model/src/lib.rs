@@ -9,6 +9,7 @@ pub mod demand3;
 pub mod engine;
 pub mod generate;
 pub mod lists;
+pub mod neighbours;
 pub mod prng;
 pub mod report;
 pub mod serial;
@@ -18,5 +19,7 @@ pub mod writing;
 
 #[cfg(test)]
 mod cases;
+#[cfg(test)]
+mod neighbours_cases;
 #[cfg(test)]
 mod writing_cases;
