@@ -81,8 +81,12 @@ plan s (apply n t) = record {
   sheet = λ k c. cond (is-committed (s .phase t) && is-written (s .mark t k)) (store c (s .copy t k .content)) c;
 }
 
+-- a table with one place changed by what stands there
+abbrev changed : {A : Type 0} → (ℕ → A) → ℕ → (A → A) → ℕ → A
+changed f i g = upd f i (g (f i))
+
 abbrev joined : (ℕ → Bool) → ℕ → Bool → ℕ → Bool
-joined f t b = upd f t (f t || b)
+joined f t b = changed f t (λ x. x || b)
 
 -- one more command accepted, with all else as in s
 abbrev with-nodes : State → (failed : ℕ → Bool) (taken : ℕ → ℕ) (queue : ℕ → List ℕ) (sheet : ℕ → Sheet) → State
@@ -104,7 +108,7 @@ with-nodes s failed taken queue sheet = record {
 
 abbrev pub touch : State → ℕ → Plan → State
 touch s n p =
-    with-nodes s (joined (s .failed) (p .who) (p .found)) (upd (s .taken) n (p .far (s .taken n)))
+    with-nodes s (joined (s .failed) (p .who) (p .found)) (changed (s .taken) n (p .far))
     (λ k. cond (owns s n k) (p .queue k (s .queue k)) (s .queue k)) (λ k. cond (owns s n k) (p .sheet k (s .sheet k)) (s .sheet k))
 
 -- ---- Each step at a node is one
@@ -121,7 +125,7 @@ cond-and true b x y = refl
 cond-and false b x y = refl
 
 pub as-touch : (s : State) (w : Work) → effect s (command w) ≡ touch s (node w) (plan s w)
-as-touch s (take n) = λ i. with-nodes s (joined (s .failed) (next s n) (finds-invalid s n (next s n))) (upd (s .taken) n (suc (s .taken n)))
+as-touch s (take n) = λ i. with-nodes s (joined (s .failed) (next s n) (finds-invalid s n (next s n))) (changed (s .taken) n suc)
     (λ k. cond-and (owns s n k) (claims (s .claim (next s n) k)) (s .queue k ++ next s n ∷ []) (s .queue k) i) (λ k. sym (cond-none (owns s n k) (s .sheet k)) i)
 as-touch s (apply n t) = λ i. with-nodes s (sym (upd-none (s .failed) t (s .failed t || false) (or-false (s .failed t))) i) (sym (upd-none (s .taken) n (s .taken n) refl) i)
     (λ k. cond (owns s n k) (without t (s .queue k)) (s .queue k))
@@ -189,13 +193,16 @@ upd-swap f i j a b d = fun-ext (λ y. same? y i
     (λ z. rw (upd-other (upd f j b) i a y z) (same? y j (λ e. rw (e, upd-same (upd f i a) j b, upd-same f j b))
     (λ w. rw (upd-other (upd f i a) j b y w, upd-other f j b y w, upd-other f i a y z)))))
 
+changed-swap : {A : Type 0} (f : ℕ → A) (i j : ℕ) (g h : A → A) → i ≢ j → changed (changed f i g) j h ≡ changed (changed f j h) i g
+changed-swap f i j g h d = rw (upd-other f i (g (f i)) j (λ e. d (sym e)), upd-other f j (h (f j)) i d) (upd-swap f i j (g (f i)) (h (f j)) d)
+
 -- two nodes may mark one save
 joined-swap : (f : ℕ → Bool) (t u : ℕ) (a b : Bool) → joined (joined f t a) u b ≡ joined (joined f u b) t a
 joined-swap f t u a b = same? t u
     (λ e. rw e (fun-ext (λ y. same? y u
     (λ z. rw (z, upd-same (joined f u a) u (joined f u a u || b), upd-same (joined f u b) u (joined f u b u || a), upd-same f u (f u || a), upd-same f u (f u || b)) (or-swap (f u) a b))
     (λ z. rw (upd-other (joined f u a) u (joined f u a u || b) y z, upd-other (joined f u b) u (joined f u b u || a) y z, upd-other f u (f u || a) y z, upd-other f u (f u || b) y z)))))
-    (λ d. rw (upd-other f t (f t || a) u (λ e. d (sym e)), upd-other f u (f u || b) t d) (upd-swap f t u (f t || a) (f u || b) d))
+    (changed-swap f t u (λ x. x || a) (λ x. x || b))
 
 cond-swap : {A : Type 0} (a b : Bool) (f g : A → A) (x : A) → (b ≡ true → a ≡ false)
     → cond b (g (cond a (f x) x)) (cond a (f x) x) ≡ cond a (f (cond b (g x) x)) (cond b (g x) x)
@@ -206,15 +213,6 @@ cond-swap false false f g x d = refl
 
 pub touch-swap : (s : State) (n m : ℕ) (p q : Plan) → n ≢ m → touch (touch s n p) m q ≡ touch (touch s m q) n p
 touch-swap s n m p q d = λ i.
-    with-nodes (with-nodes s (s .failed) (s .taken) (s .queue) (s .sheet)) (joined-swap (s .failed) (p .who) (q .who) (p .found) (q .found) i) (far i)
+    with-nodes (with-nodes s (s .failed) (s .taken) (s .queue) (s .sheet)) (joined-swap (s .failed) (p .who) (q .who) (p .found) (q .found) i) (changed-swap (s .taken) n m (p .far) (q .far) d i)
     (λ k. cond-swap (owns s n k) (owns s m k) (p .queue k) (q .queue k) (s .queue k) (not-both s n m k d) i)
     (λ k. cond-swap (owns s n k) (owns s m k) (p .sheet k) (q .sheet k) (s .sheet k) (not-both s n m k d) i)
-  where
-    x : ℕ
-    x = p .far (s .taken n)
-
-    y : ℕ
-    y = q .far (s .taken m)
-
-    far : upd (upd (s .taken) n x) m (q .far (upd (s .taken) n x m)) ≡ upd (upd (s .taken) m y) n (p .far (upd (s .taken) m y n))
-    far = rw (upd-other (s .taken) n x m (λ e. d (sym e)), upd-other (s .taken) m y n d) (upd-swap (s .taken) n m x y d)
