@@ -4,18 +4,14 @@ use Prim.Native.Nat.{ℕ}
 use mathlib.Core.Path.{_≡_, refl, sym, _∙_}
 use mathlib.Core.Bool.{true, false}
 use mathlib.Core.Logic.{_≢_}
-use mathlib.Core.List.{List, [], _∷_, _++_}
+use mathlib.Core.List.{List, [], _∷_, _++_, cons-ne-nil}
 use mathlib.Core.Option.{Option, none, some}
-use native.Mathlib.Omega.{arith}
 use borrow.Author.Tests.{eq-eqb, ne-eqb}
 use Rattle.rules.specs.Bytes.{Command}
 use Rattle.rules.specs.Neighbours.{node-of, own-steps, at-some, at-nodes, Swaps, as-it-was, swap, behind, then, OwnOrder}
 use Rattle.rules.proofs.Table.{same?, clash, and-l, and-r, and-i}
 
 -- ---- Lists of steps at nodes
-
-nil-cons : {P : Type 0} (c : Command) (cs : List Command) → [] ≡ c ∷ cs → P
-nil-cons c cs e = absurd (let z : _≡_ {A = ℕ} 0 1 = cc in omega arith)
 
 -- the node of the first, and that the rest are such steps too
 at-first : {P : Type 0} (c : Command) (cs : List Command) → at-nodes (c ∷ cs) ≡ true → ((n : ℕ) → node-of c ≡ some n → at-nodes cs ≡ true → P) → P
@@ -47,7 +43,7 @@ record Pulled (n : ℕ) (d : Command) (more cs cs′ : List Command) : Type 0 wh
 
 pull : {P : Type 0} (n : ℕ) (d : Command) (more cs : List Command) → node-of d ≡ some n → at-nodes cs ≡ true → own-steps n cs ≡ d ∷ more
     → ((cs′ : List Command) → Pulled n d more cs cs′ → P) → P
-pull n d more [] q a e f = nil-cons d more e
+pull n d more [] q a e f = absurd (cons-ne-nil d more (sym e))
 pull {P} n d more (c ∷ cs) q a e f = at-first c cs a (λ m r a′. same? m n (λ z. here (rw z at r) a′) (λ z. further m r a′ z (pull n d more cs q a′)))
   where
     here : node-of c ≡ some n → at-nodes cs ≡ true → P
@@ -69,7 +65,7 @@ pull {P} n d more (c ∷ cs) q a e f = at-first c cs a (λ m r a′. same? m n (
 
 own-swaps : (ds cs : List Command) → at-nodes cs ≡ true → at-nodes ds ≡ true → ((n : ℕ) → own-steps n cs ≡ own-steps n ds) → Swaps cs ds
 own-swaps [] [] a b e = as-it-was
-own-swaps [] (c ∷ cs) a b e = at-first c cs a (λ n q _. nil-cons c (own-steps n cs) (sym (e n) ∙ own-here n c cs q))
+own-swaps [] (c ∷ cs) a b e = at-first c cs a (λ n q _. absurd (cons-ne-nil c (own-steps n cs) (sym (own-here n c cs q) ∙ e n)))
 own-swaps (d ∷ ds) cs a b e = at-first d ds b (λ n q b′. pull n d (own-steps n ds) cs q a (e n ∙ own-here n d ds q) (λ cs′ p.
     then (p .swaps) (behind d (own-swaps ds cs′ (p .at) b′ (λ m. same? m n
     (λ z. rw z (p .own))

@@ -3,11 +3,10 @@
 -- needed and no acceptance.
 use Prim.Native.Nat.{ℕ, suc}
 use mathlib.Core.Path.{_≡_, refl, sym, ap, _∙_, fun-ext}
-use mathlib.Core.Bool.{Bool, true, false, _&&_, _||_, cond, true≢false, or-false}
+use mathlib.Core.Bool.{Bool, true, false, _&&_, _||_, cond, true≢false, or-false, or-assoc, or-comm}
 use mathlib.Core.Logic.{_≢_}
 use mathlib.Core.List.{List, [], _∷_, _++_}
-use mathlib.Core.Option.{Option, none, some}
-use native.Mathlib.Omega.{arith}
+use mathlib.Core.Option.{Option, none, some, Option·none-ne-some}
 use lib.Dec.{eqb}
 use borrow.Author.Tests.{eqb-true, eqb-false, ne-eqb, not-true}
 use Rattle.rules.specs.Table.{upd, any}
@@ -31,19 +30,16 @@ abbrev pub command : Work → Command
 command (take n) = Take n
 command (apply n t) = Apply n t
 
-none-some : {P : Type 0} (n : ℕ) → none ≡ some n → P
-none-some n e = absurd (let z : _≡_ {A = ℕ} 0 1 = cc in omega arith)
-
 -- a command that is a step at a node is one of these
 pub as-work : (P : Command → ℕ → Type 0) → ((w : Work) → P (command w) (node w)) → (c : Command) (n : ℕ) → node-of c ≡ some n → P c n
-as-work P f (Begin t) n e = none-some n e
-as-work P f (Read t k) n e = none-some n e
-as-work P f (Write t k v) n e = none-some n e
-as-work P f (Submit t) n e = none-some n e
+as-work P f (Begin t) n e = absurd (Option·none-ne-some n e)
+as-work P f (Read t k) n e = absurd (Option·none-ne-some n e)
+as-work P f (Write t k v) n e = absurd (Option·none-ne-some n e)
+as-work P f (Submit t) n e = absurd (Option·none-ne-some n e)
 as-work P f (Take m) n e = let z : m ≡ n = cc in rw (← z) (f (take m))
-as-work P f (Decide t) n e = none-some n e
+as-work P f (Decide t) n e = absurd (Option·none-ne-some n e)
 as-work P f (Apply m t) n e = let z : m ≡ n = cc in rw (← z) (f (apply m t))
-as-work P f (GiveUp t) n e = none-some n e
+as-work P f (GiveUp t) n e = absurd (Option·none-ne-some n e)
 
 -- two commands at two nodes are two such steps
 pub at-work : (P : Command → Command → Type 0) → ((v w : Work) → node v ≢ node w → P (command v) (command w)) → (a b : Command) → at-two-nodes a b ≡ true → P a b
@@ -181,11 +177,7 @@ module _ (s : State) (n : ℕ) (p : Plan) where
 -- ---- Two touches at two nodes
 
 or-swap : (a b c : Bool) → (a || b) || c ≡ (a || c) || b
-or-swap true b c = refl
-or-swap false true true = refl
-or-swap false true false = refl
-or-swap false false true = refl
-or-swap false false false = refl
+or-swap a b c = or-assoc a b c ∙ ap (λ x. a || x) (or-comm b c) ∙ sym (or-assoc a c b)
 
 upd-swap : {A : Type 0} (f : ℕ → A) (i j : ℕ) (a b : A) → i ≢ j → upd (upd f i a) j b ≡ upd (upd f j b) i a
 upd-swap f i j a b d = fun-ext (λ y. same? y i

@@ -101,7 +101,8 @@ abbrev pub at-nodes : List Command → Bool
 at-nodes [] = true
 at-nodes (c ∷ cs) = at-some (node-of c) && at-nodes cs
 
--- In a stretch of steps at nodes each node's own order is all that counts: where it is the same, swaps lead from the one to the other.
+-- What such swaps come to, beyond the paper's words: in a stretch of steps at nodes each node's own order is all that counts. Where it is the
+-- same, swaps lead from the one to the other.
 abbrev pub OwnOrder : Type 0
 OwnOrder = (cs ds rest : List Command) → at-nodes cs ≡ true → at-nodes ds ≡ true → ((n : ℕ) → own-steps n cs ≡ own-steps n ds) → Swaps (cs ++ rest) (ds ++ rest)
 
