@@ -17,13 +17,14 @@ extern "C" {
    nothing else. Any bytes are a session. Neither pointer may be null, also where a length is 0. The two do not overlap. */
 size_t cusphewa_report(const uint8_t *session, size_t session_len, uint8_t *report, size_t report_len);
 
-/* The answer of a call on the session, as kind * 2^48 + value * 2^8 + number; parts that a kind does not use are 0. */
+/* The answer of a call on the session, as kind * 2^48 + value * 2^8 + number; parts that a kind does not use are 0. The macros below take it
+   apart. */
 enum {
     CUSPHEWA_NO_COMMAND = 0,
     CUSPHEWA_ACCEPTED = 1,
     CUSPHEWA_CONTENT = 2,       /* READ: the content is the value */
     CUSPHEWA_TAKE_VALID = 3,    /* TAKE: the save is the value */
-    CUSPHEWA_TAKE_INVALID = 4,  /* TAKE: the save is the value */
+    CUSPHEWA_TAKE_INVALID = 4,  /* TAKE: the value is sheet * 2^16 + save, of the first cause; the number is its rule */
     CUSPHEWA_COMMITTED = 5,     /* DECIDE */
     CUSPHEWA_SECOND_RUN = 6,    /* DECIDE */
     CUSPHEWA_REFUSED = 7,       /* the offset is the value, the refusal the number */
@@ -31,6 +32,22 @@ enum {
     CUSPHEWA_LISTED = 9         /* cusphewa_read: the value is nodes * 2^32 + sheets * 2^16 + steps */
 };
 uint64_t cusphewa_answer(const uint8_t *session, size_t session_len);
+
+#define CUSPHEWA_KIND(answer) ((unsigned)((answer) >> 48))
+#define CUSPHEWA_VALUE(answer) ((uint64_t)(answer) >> 8 & 0xffffffffff)
+#define CUSPHEWA_NUMBER(answer) ((unsigned)((answer) & 0xff))
+
+/* Of a TAKE: the save; where the node found it invalid, the sheet and the rule of the first cause that it met. */
+#define CUSPHEWA_SAVE(answer) ((unsigned)((answer) >> 8 & 0xffff))
+#define CUSPHEWA_SHEET(answer) ((unsigned)((answer) >> 24 & 0xffff))
+#define CUSPHEWA_RULE(answer) CUSPHEWA_NUMBER(answer)
+
+/* The rules. On one sheet the X comes before the counter. */
+enum {
+    CUSPHEWA_X_GRANTED = 1,     /* the front entry of the sheet's queue is an X */
+    CUSPHEWA_X_WAITING = 2,     /* the queue holds an X, and its front entry is none */
+    CUSPHEWA_COUNTER_BEHIND = 3 /* the queue holds no X, and the copy's write counter is below the sheet's */
+};
 
 /* The refusals, by number. 13, 14 and 5 tell a save that never began, one that is over (committed or dropped), and one between. */
 enum {

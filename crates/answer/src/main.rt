@@ -3,6 +3,8 @@ ghost use Prim.Native.Nat.{_<_};
 use libc::STDIN_FILENO;
 use libc::STDOUT_FILENO;
 use session::Reply;
+use state::Cause;
+use state::Rule;
 use state::Verdict;
 
 fn say(text: &[u8]) {
@@ -13,13 +15,25 @@ fn number(n: u64) {
     io::print_decimal(STDOUT_FILENO, n);
 }
 
-// "take T valid" or "take T invalid".
+// " invalid K granted", " invalid K waiting" or " invalid K behind".
+fn say_cause(cause: Cause) {
+    say(b" invalid ");
+    number(cause.sheet as u64);
+    let rule = cause.rule;
+    match rule {
+        Rule::XGranted => say(b" granted"),
+        Rule::XWaiting => say(b" waiting"),
+        Rule::CounterBehind => say(b" behind"),
+    }
+}
+
+// "take T valid", or "take T" with the cause.
 fn say_taken(t: u8, v: Verdict) {
     say(b"take ");
     number(t as u64);
     match v {
         Verdict::Valid => say(b" valid"),
-        Verdict::Invalid => say(b" invalid"),
+        Verdict::Invalid(cause) => say_cause(cause),
     }
 }
 

@@ -9,15 +9,14 @@ use Rattle.rules.specs.Bytes.{header, reading}
 use Rattle.rules.specs.State.{fresh}
 use Rattle.rules.specs.Steps.{Event, run}
 use Rattle.rules.specs.Calls as calls
+use Rattle.rules.specs.Causes.{WhyFailed}
 use Rattle.rules.specs.Report.{stop-line, refusal-line, report, Filled, report-call}
+use Rattle.rules.proofs.Causes.{why-failed}
 use Rattle.rules.proofs.Sessions.{commands-of, final, session-final, stop-final, reply-final, stop-unopened, reply-unopened, report-unopened}
 use Rattle.wire.specs.declared.Opened.the-variants.{Bad}
 use Rattle.wire.specs.Meaning.{opened}
 use Rattle.wire.proofs.Header.{opens-has}
 use Rattle.wire.proofs.Opening.{Opening, unopened}
-use Rattle.state.specs.declared.Verdict.{Verdict}
-use Rattle.state.specs.declared.Verdict.the-variants.{Valid, Invalid}
-use Rattle.state.specs.View.{verdict-of}
 use Rattle.text.specs.Wrote.{Wrote}
 use Rattle.text.proofs.Writing.{wrote-front}
 use Rattle.session.specs.declared.Stop.{Stop}
@@ -28,7 +27,7 @@ use Rattle.session.specs.declared.Ended.{Ended}
 use Rattle.session.specs.Meaning.{stop-of, reply-of}
 use Rattle.session.specs.Carried.{Within, Answered}
 use Rattle.session.proofs.Lines.{within-less}
-use Rattle.cusphewa.specs.Codes.{verdict-code, answer-code, part-code, Near, NearReply}
+use Rattle.cusphewa.specs.Codes.{answer-code, part-code, Near, NearReply}
 
 -- ---- Where a run stops
 
@@ -119,12 +118,8 @@ near-part n s p c k q w = rw q at w
 pub near-refused : (r : Reply) (p c : ℕ) → r ≡ reply.Refused p c → NearReply r → p ≤ 16384
 near-refused r p c q w = rw q at w
 
-pub told : (b : List ℕ) (r x : Reply) {n : ℕ} → reply-of r ≡ calls.reply b → r ≡ x → n ≡ answer-code (reply-of x) → n ≡ answer-code (calls.reply b)
-told b r x e q c = c ∙ ap answer-code (ap reply-of (sym q) ∙ e)
-
-pub verdict-small : (v : Verdict) → verdict-code (verdict-of v) < 8
-verdict-small Valid = omega arith
-verdict-small Invalid = omega arith
+pub told : (b : List ℕ) (r x : Reply) {n : ℕ} → reply-of r ≡ calls.reply b → r ≡ x → n ≡ answer-code (reply-of x) → (n ≡ answer-code (calls.reply b)) × WhyFailed
+told b r x e q c = (c ∙ ap answer-code (ap reply-of (sym q) ∙ e), why-failed)
 
 -- ---- The buffer
 

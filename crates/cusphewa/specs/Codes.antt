@@ -1,7 +1,7 @@
 -- Answers and parts as numbers, for the host.
 use Prim.Native.Nat.{ℕ, _+_, _*_, _≤_, min}
 use mathlib.Core.List.{List}
-use Rattle.rules.specs.Steps.{Verdict, valid, invalid, accepted, content-is, took, commits, second-run}
+use Rattle.rules.specs.Steps.{Rule, x-granted, x-waiting, counter-behind, Verdict, valid, invalid, accepted, content-is, took, commits, second-run}
 use Rattle.rules.specs.Calls as calls
 use Rattle.rules.specs.Calls.{no-command, answers, refusal, Part}
 use Rattle.rules.specs.Writing as lists
@@ -14,15 +14,21 @@ use Rattle.session.specs.declared.Reply.the-variants as reply
 abbrev pub coded : (kind value number : ℕ) → ℕ
 coded kind value number = kind * 281474976710656 + value * 256 + number
 
-abbrev pub verdict-code : Verdict → ℕ
-verdict-code valid = 3
-verdict-code invalid = 4
+abbrev pub rule-code : Rule → ℕ
+rule-code x-granted = 1
+rule-code x-waiting = 2
+rule-code counter-behind = 3
+
+-- what a node found save t: the value is sheet * 2^16 + save where there is a cause
+abbrev pub verdict-code : ℕ → Verdict → ℕ
+verdict-code t valid = coded 3 t 0
+verdict-code t (invalid c) = coded 4 (c .sheet * 65536 + t) (rule-code (c .rule))
 
 abbrev pub answer-code : calls.Reply → ℕ
 answer-code no-command = coded 0 0 0
 answer-code (answers accepted) = coded 1 0 0
 answer-code (answers (content-is v)) = coded 2 v 0
-answer-code (answers (took t v)) = coded (verdict-code v) t 0
+answer-code (answers (took t v)) = verdict-code t v
 answer-code (answers commits) = coded 5 0 0
 answer-code (answers second-run) = coded 6 0 0
 answer-code (refusal p n) = coded 7 p n

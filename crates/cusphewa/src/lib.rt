@@ -4,6 +4,7 @@ use session::Ended;
 use session::MIN_BUFFER;
 use session::Reply;
 use session::Stop;
+use state::Rule;
 use state::Verdict;
 use wire::Opened;
 use writing::Written;
@@ -12,6 +13,7 @@ ghost use Prim.Native.Nat.{_<_, _≤_, min};
 ghost use lib.ListN.{length};
 ghost use Rattle.rules.specs.Demand3.{SessionDemand3};
 ghost use Rattle.rules.specs.Neighbours.{SessionNeighbours};
+ghost use Rattle.rules.specs.Causes.{WhyFailed};
 ghost use Rattle.rules.specs.Calls as calls;
 ghost use Rattle.rules.specs.Report as rules;
 ghost use Rattle.rules.specs.Writing as lists;
@@ -19,8 +21,8 @@ ghost use Rattle.wire.specs.Meaning.{opened};
 ghost use Rattle.wire.specs.declared.Opened.the-variants.{Header};
 ghost use Rattle.session.specs.Meaning.{stop-of, reply-of};
 ghost use Rattle.session.specs.Carried.{Within, Answered};
-ghost use Rattle.state.specs.View.{verdict-of};
-ghost use Rattle.cusphewa.specs.Codes.{coded, verdict-code, answer-code, part-code, told-call, last-place, Near, NearReply};
+ghost use Rattle.state.specs.View.{rule-of, verdict-of};
+ghost use Rattle.cusphewa.specs.Codes.{coded, rule-code, verdict-code, answer-code, part-code, told-call, last-place, Near, NearReply};
 ghost use Rattle.writing.specs.Meaning.{heading-of};
 
 // ---- The report
@@ -119,13 +121,28 @@ fn code(kind: u64, value: u64, number: u8) -> u64
     kind * 281474976710656 + value * 256 + number as u64
 }
 
-// The kind of a TAKE's answer.
-fn take_kind(v: Verdict) -> u64
-    ensures { λ r. ⌜ r ≡ verdict-code (verdict-of v) ⌝ }
+// The number of a rule.
+fn rule_number(rule: Rule) -> u8
+    ensures { λ r. ⌜ r ≡ rule-code (rule-of rule) ⌝ }
+{
+    match rule {
+        Rule::XGranted => 1,
+        Rule::XWaiting => 2,
+        Rule::CounterBehind => 3,
+    }
+}
+
+// A TAKE's answer: the save, and where it was found invalid the sheet and the rule.
+fn take_code(t: u8, v: Verdict) -> u64
+    ensures { λ r. ⌜ r ≡ verdict-code t (verdict-of v) ⌝ }
 {
     match v {
-        Verdict::Valid => 3,
-        Verdict::Invalid => 4,
+        Verdict::Valid => code(3, t as u64, 0),
+        Verdict::Invalid(cause) => {
+            let k = cause.sheet;
+            let rule = cause.rule;
+            code(4, k as u64 * 65536 + t as u64, rule_number(rule))
+        }
     }
 }
 
@@ -133,13 +150,14 @@ fn take_kind(v: Verdict) -> u64
 #[no_mangle]
 pub extern "C" fn cusphewa_answer(session: &[u8]) -> u64
     ensures { λ r. ⌜ r ≡ answer-code (calls.reply (now (session .entry))) ⌝ }
+    ensures why_failed { λ _. ⌜ WhyFailed ⌝ }
 {
     let answer = last_answer(session);
     match answer {
         Reply::NoCommand => code(0, 0, 0),
         Reply::Accepted => code(1, 0, 0),
         Reply::Content(v) => code(2, v as u64, 0),
-        Reply::Took(t, v) => code(take_kind(v), t as u64, 0),
+        Reply::Took(t, v) => take_code(t, v),
         Reply::Commits => code(5, 0, 0),
         Reply::SecondRun => code(6, 0, 0),
         Reply::Refused(p, n) => code(7, p as u64, n),

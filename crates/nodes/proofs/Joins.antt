@@ -14,14 +14,16 @@ use Rattle.rules.specs.Bytes.{Take}
 use Rattle.rules.specs.Table.{upd, any}
 use Rattle.rules.specs.State.{claims}
 use Rattle.rules.specs.Steps as rules
-use Rattle.rules.specs.Steps.{fails-at, finds-invalid}
-use Rattle.rules.proofs.Table.{bool, same?, below?, and-i, clash, any-intro}
+use Rattle.rules.specs.Steps.{fails-at, finds-invalid, cause-at, first-cause}
+use Rattle.rules.proofs.Table.{bool, same?, below?, and-i, clash, any-intro, first-none}
+use Rattle.rules.proofs.Causes.{passing, found-valid, found-invalid}
 use Rattle.rules.proofs.Places.{at, by}
+use Rattle.state.specs.declared.Cause.{Cause}
 use Rattle.state.specs.declared.Verdict.{Verdict}
 use Rattle.state.specs.declared.Verdict.the-variants.{Valid, Invalid}
 use Rattle.state.specs.declared.Answer.the-variants.{Took, Refused}
 use Rattle.state.specs.Parts.{Parts, byte-sizes, put, store, CLAIM, STANDING, OWNER, FAILED, ORDER, PLACE, TAKEN}
-use Rattle.state.specs.View.{set?, claim-in, entered, queue-in, nodes, placed, view, no-tally, verdict-of}
+use Rattle.state.specs.View.{set?, claim-in, entered, queue-in, nodes, placed, view, no-tally, cause-of, verdict-of}
 use Rattle.state.specs.Changes.{moving-on}
 use Rattle.state.specs.Ready.{Whole, Ready, Trimmed}
 use Rattle.state.specs.Lent.{Steps}
@@ -117,30 +119,31 @@ module _ {m : ℕ} {d : Parts} (ready : Ready m d) (n : ℕ) (ln : n < nodes d) 
           (entries-on (d ORDER) place (entered m standing′ (d CLAIM) n k) p ∙ rw (joins k (w ∙ e), before-same k n))))
           (λ z. rw (getD-set-other (d TAKEN) n o (p + 1) 0 z, ne-eqb o n z) (before-same k o))
 
-      -- the node finds t invalid, if f, and its verdict is v
-      take-steps : (value seen w failed′ : List ℕ) (f : Bool) (v : Verdict) → f ≡ finds-invalid (view m d [] seen w no-tally) n t → verdict-of v ≡ rules.verdict f
-          → _≡_ {A = ℕ → Bool} (λ j. set? (getD failed′ j 0)) (upd (λ j. set? (getD (d FAILED) j 0)) t (set? (getD (d FAILED) t 0) || f))
+      -- the node's verdict is v, and t is marked where it is invalid
+      take-steps : (value seen w failed′ : List ℕ) (v : Verdict) → verdict-of v ≡ rules.verdict (first-cause (view m d [] seen w no-tally) n t)
+          → _≡_ {A = ℕ → Bool} (λ j. set? (getD failed′ j 0)) (upd (λ j. set? (getD (d FAILED) j 0)) t (set? (getD (d FAILED) t 0) || finds-invalid (view m d [] seen w no-tally) n t))
           → Steps (view m d value seen w) (Take n) (view m (put (put (put d STANDING standing′) TAKEN (set (d TAKEN) n (p + 1))) FAILED failed′) value seen w) (Took t v)
-      take-steps value seen w failed′ f v ef ev em =
+      take-steps value seen w failed′ v ev em =
           let nx : getD (take (placed d) (d ORDER)) p 0 ≡ t = getD-take (placed d) (d ORDER) p 0 h in
           accepted
           (λ tally. rw (lt-ltb n (nodes d) ln, order-length m d (ready .shaped), lt-ltb p (placed d) h))
           (λ tally. rw nx
-          (same-state refl refl (fun-ext (λ k. grows k (getD (d OWNER) k 0) refl)) refl refl refl refl (em ∙ rw ef) refl refl refl
+          (same-state refl refl (fun-ext (λ k. grows k (getD (d OWNER) k 0) refl)) refl refl refl refl em refl refl refl
           (view-set (λ x. x) (d TAKEN) n (p + 1) (rw (ready .shaped .whole .all TAKEN) node8) ∙ rw add-one) refl))
-          (λ tally. rw (nx, ev, ef))
+          (λ tally. rw (nx, ev))
 
     -- the code's ends: t has no sheet here, or gets its byte and is found invalid or valid
     take-none : any m (λ k. eqb (getD (d OWNER) k 0) n && claims (claim-in m (d CLAIM) t k)) ≡ false
         → (value seen w : List ℕ) → Steps (view m d value seen w) (Take n) (view m (moving-on d n) value seen w) (Took t Valid)
     take-none none value seen w =
         let empty = here m (d OWNER) (d CLAIM) n t none in
-        take-steps (d STANDING) (λ j z. refl) (λ k o e. absurd (empty k o e)) value seen w (d FAILED) false Valid
-        (sym (any-fails m (λ k. eqb (getD (d OWNER) k 0) n && fails-at (view m d [] seen w no-tally) t k)
-        (λ k l. same? (getD (d OWNER) k 0) n
+        let passes : (k : ℕ) → k < m → (eqb (getD (d OWNER) k 0) n && fails-at (view m d [] seen w no-tally) t k) ≡ false =
+        λ k l. same? (getD (d OWNER) k 0) n
         (λ o. bool (claims (claim-in m (d CLAIM) t k)) (λ e. absurd (empty k o e)) (λ e. rw e (and-false (eqb (getD (d OWNER) k 0) n))))
-        (λ z. rw (ne-eqb (getD (d OWNER) k 0) n z)))))
-        refl (failed-keep (d FAILED) t)
+        (λ z. rw (ne-eqb (getD (d OWNER) k 0) n z)) in
+        take-steps (d STANDING) (λ j z. refl) (λ k o e. absurd (empty k o e)) value seen w (d FAILED) Valid
+        (rw (first-none m (cause-at (view m d [] seen w no-tally) n t) (λ k l. passing (view m d [] seen w no-tally) n t k (passes k l))))
+        (rw (any-fails m (λ k. eqb (getD (d OWNER) k 0) n && fails-at (view m d [] seen w no-tally) t k) passes) (failed-keep (d FAILED) t))
 
     abbrev standing′ : List ℕ
     standing′ = set (d STANDING) (n * 32 + t) 1
@@ -148,17 +151,21 @@ module _ {m : ℕ} {d : Parts} (ready : Ready m d) (n : ℕ) (ln : n < nodes d) 
     set-here : set? (getD standing′ (n * 32 + t) 0) ≡ true
     set-here = let s = next32 in let l = node8 in rw (getD-set-same (d STANDING) (n * 32 + t) 1 0 (rw (ready .shaped .whole .all STANDING) (omega arith)))
 
-    module _ {f : Bool} (value seen w : List ℕ) (e : f ≡ finds-invalid (view m d [] seen w no-tally) n t) where
-      take-in : (failed′ : List ℕ) (v : Verdict) → verdict-of v ≡ rules.verdict f
-          → _≡_ {A = ℕ → Bool} (λ j. set? (getD failed′ j 0)) (upd (λ j. set? (getD (d FAILED) j 0)) t (set? (getD (d FAILED) t 0) || f))
+    module _ (value seen w : List ℕ) where
+      take-in : (failed′ : List ℕ) (v : Verdict) → verdict-of v ≡ rules.verdict (first-cause (view m d [] seen w no-tally) n t)
+          → _≡_ {A = ℕ → Bool} (λ j. set? (getD failed′ j 0)) (upd (λ j. set? (getD (d FAILED) j 0)) t (set? (getD (d FAILED) t 0) || finds-invalid (view m d [] seen w no-tally) n t))
           → Steps (view m d value seen w) (Take n) (view m (put (taken-in d n t) FAILED failed′) value seen w) (Took t v)
-      take-in failed′ v ev em = take-steps standing′ (λ j z. getD-set-other (d STANDING) (n * 32 + t) j 1 0 z) (λ k o c. set-here) value seen w failed′ f v e ev em
+      take-in failed′ v ev em = take-steps standing′ (λ j z. getD-set-other (d STANDING) (n * 32 + t) j 1 0 z) (λ k o c. set-here) value seen w failed′ v ev em
 
-      take-invalid : f ≡ true → Steps (view m d value seen w) (Take n) (view m (store (taken-in d n t) FAILED t 1) value seen w) (Took t Invalid)
-      take-invalid y = take-in (set (d FAILED) t 1) Invalid (rw y) (rw y (failed-set (d FAILED) t (rw (ready .shaped .whole .all FAILED) next32)))
+      take-invalid : (c : Cause) → verdict-of (Invalid c) ≡ rules.verdict (first-cause (view m d [] seen w no-tally) n t)
+          → Steps (view m d value seen w) (Take n) (view m (store (taken-in d n t) FAILED t 1) value seen w) (Took t (Invalid c))
+      take-invalid c e =
+          take-in (set (d FAILED) t 1) (Invalid c) e
+          (rw (found-invalid (view m d [] seen w no-tally) n t (cause-of c) e) (failed-set (d FAILED) t (rw (ready .shaped .whole .all FAILED) next32)))
 
-      take-valid : f ≡ false → Steps (view m d value seen w) (Take n) (view m (taken-in d n t) value seen w) (Took t Valid)
-      take-valid y = take-in (d FAILED) Valid (rw y) (rw y (failed-keep (d FAILED) t))
+      take-valid : verdict-of Valid ≡ rules.verdict (first-cause (view m d [] seen w no-tally) n t)
+          → Steps (view m d value seen w) (Take n) (view m (taken-in d n t) value seen w) (Took t Valid)
+      take-valid e = take-in (d FAILED) Valid e (rw (found-valid (view m d [] seen w no-tally) n t e) (failed-keep (d FAILED) t))
 
 -- what the code reads, and what its changes come to
 module _ {m : ℕ} {d : Parts} (ready : Ready m d) (n : ℕ) (ln : n < nodes d) {p : ℕ} (ep : p ≡ getD (d TAKEN) n 0) where
@@ -206,16 +213,16 @@ module _ {m : ℕ} {d : Parts} (ready : Ready m d) (n : ℕ) (ln : n < nodes d) 
           subst (λ (u : ℕ). Steps (view m d value seen w) (Take n) (view m (moving-on d n) value seen w) (Took u Valid)) (sym is-next)
           (take-none ready n ln h′ (rw is-next at (sym ec ∙ none)) value seen w)
 
-      module _ {f : Bool} (seen w : List ℕ) (ef : f ≡ finds-invalid (view m d [] seen w no-tally) n t) (value : List ℕ) where
-        pub moves-invalid : f ≡ true → Steps (view m d value seen w) (Take n) (view m (store (taken-in d n t) FAILED t 1) value seen w) (Took t Invalid)
-        moves-invalid y =
-            subst (λ (u : ℕ). Steps (view m d value seen w) (Take n) (view m (store (taken-in d n u) FAILED u 1) value seen w) (Took u Invalid)) (sym is-next)
-            (take-invalid ready n ln h′ value seen w (rw is-next at ef) y)
+      module _ {v : Verdict} (seen w : List ℕ) (ev : verdict-of v ≡ rules.verdict (first-cause (view m d [] seen w no-tally) n t)) (value : List ℕ) where
+        pub moves-invalid : (c : Cause) → v ≡ Invalid c → Steps (view m d value seen w) (Take n) (view m (store (taken-in d n t) FAILED t 1) value seen w) (Took t (Invalid c))
+        moves-invalid c y =
+            subst (λ (u : ℕ). Steps (view m d value seen w) (Take n) (view m (store (taken-in d n u) FAILED u 1) value seen w) (Took u (Invalid c))) (sym is-next)
+            (take-invalid ready n ln h′ value seen w c (rw (y, is-next) at ev))
 
-        pub moves-valid : f ≡ false → Steps (view m d value seen w) (Take n) (view m (taken-in d n t) value seen w) (Took t Valid)
+        pub moves-valid : v ≡ Valid → Steps (view m d value seen w) (Take n) (view m (taken-in d n t) value seen w) (Took t Valid)
         moves-valid y =
             subst (λ (u : ℕ). Steps (view m d value seen w) (Take n) (view m (taken-in d n u) value seen w) (Took u Valid)) (sym is-next)
-            (take-valid ready n ln h′ value seen w (rw is-next at ef) y)
+            (take-valid ready n ln h′ value seen w (rw (y, is-next) at ev))
 
       taken-in-whole : Whole (byte-sizes m) (taken-in d n t)
       taken-in-whole = whole-store (whole-store (ready .shaped .whole) STANDING (n * 32 + t) 1) TAKEN n (getD (d TAKEN) n 0 + 1)

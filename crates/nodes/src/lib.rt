@@ -38,15 +38,17 @@ pub fn take(b: &mut [u8], listed: &[u16], seen: &[u32], w: &[u32], m: usize, n: 
         state::move_on(b, m, ni);
         return Answer::Took(t, Verdict::Valid);
     }
-    let f = sheets::finds_invalid(b, listed, seen, w, m, n, t);
+    let v = sheets::finding(b, listed, seen, w, m, n, t);
     let ti = t as usize;
     state::set_standing(b, m, ni, ti, 1);
     state::move_on(b, m, ni);
-    if f {
-        state::fail(b, m, ti);
-        return Answer::Took(t, Verdict::Invalid);
+    match v {
+        Verdict::Valid => Answer::Took(t, Verdict::Valid),
+        Verdict::Invalid(cause) => {
+            state::fail(b, m, ti);
+            Answer::Took(t, Verdict::Invalid(cause))
+        }
     }
-    Answer::Took(t, Verdict::Valid)
 }
 
 // A sheet of owner o receives the content at node n: the save's phase is p and its mark there x.

@@ -2,13 +2,13 @@
 use mathlib.Core.Path.{_≡_, refl}
 use mathlib.Core.List.{List, map, _++_}
 use Prim.Native.Nat.{ℕ}
-use Rattle.rules.specs.Table.{upd, upd2, row, all, any}
+use Rattle.rules.specs.Table.{upd, upd2, row, all, any, first-below}
 use Rattle.rules.specs.Bytes.{read-from}
 use Rattle.rules.specs.State.{fresh}
 use Rattle.rules.specs.Steps.{x-on, run}
 use Rattle.rules.specs.Calls.{Reply, stop, reply, part, shown}
 use Rattle.rules.specs.Report.{figures, decimal, field, rows, place-line, place-lines, sheet-line, sheet-lines, tally-line, refusal-line, stop-line, state-lines, report}
-use Rattle.rules.specs.Cases.{Case, hex, text, starred, refusals, others, neighbours}
+use Rattle.rules.specs.Cases.{Case, hex, text, starred, refusals, others, neighbours, causes}
 
 record Told : Type 0 where
   answer : Reply
@@ -22,8 +22,8 @@ abbrev stated : Case → Told
 stated c = record { answer = c .answer; shown-bytes = hex (c .shown); lines = text (c .lines) }
 
 abbrev table : List Case
-table = starred ++ refusals ++ others ++ neighbours
+table = starred ++ refusals ++ others ++ neighbours ++ causes
 
 pub cases : map computed table ≡ map stated table
-unfolding upd upd2 row all any read-from fresh x-on run stop reply part figures decimal field rows place-line place-lines sheet-line sheet-lines tally-line refusal-line stop-line state-lines report
+unfolding upd upd2 row all any first-below read-from fresh x-on run stop reply part figures decimal field rows place-line place-lines sheet-line sheet-lines tally-line refusal-line stop-line state-lines report
 cases = refl

@@ -3,11 +3,12 @@ use Prim.Native.Nat.{ℕ, zero, suc, _+_, _*_, _≤_, _<_}
 use mathlib.Core.Path.{_≡_, refl, sym, _∙_}
 use mathlib.Core.Bool.{Bool, true, false, _&&_, cond, true≢false, or-true}
 use mathlib.Core.Logic.{_≢_}
+use mathlib.Core.Option.{Option, none, some}
 use native.Mathlib.Omega.{arith}
 use native.Mathlib.Nat.{not-suc-le-zero, le-refl}
 use lib.Dec.{ltb, eqb}
 use borrow.Author.Tests.{ltb-true, ltb-false, eqb-true, eqb-false, eq-eqb, ne-eqb}
-use Rattle.rules.specs.Table.{upd, upd2, row, all, any}
+use Rattle.rules.specs.Table.{upd, upd2, row, all, any, first-below}
 
 -- ---- Bool with a remembered equation
 pub bool : {P : Type 0} (b : Bool) → (b ≡ true → P) → (b ≡ false → P) → P
@@ -119,6 +120,33 @@ any-intro (suc n) f i h e = same? i n (λ q. rw (← q, e)) (λ q. rw (any-intro
 
 pub any-none : (n : ℕ) (f : ℕ → Bool) → any n f ≡ false → (i : ℕ) → i < n → f i ≡ false
 any-none n f e i h = bool (f i) (λ q. clash (any n f) (any-intro n f i h q) e) (λ q. q)
+
+pub any-not : (n : ℕ) (f : ℕ → Bool) → ((i : ℕ) → i < n → f i ≡ false) → any n f ≡ false
+any-not n f h = bool (any n f) (λ e. any-at n f e (λ i l q. clash (f i) q (h i l))) (λ e. e)
+
+-- ---- the first of the numbers below a bound
+module _ {A : Type 0} where
+  pub first-none : (n : ℕ) (f : ℕ → Option A) → ((i : ℕ) → i < n → f i ≡ none) → first-below n f ≡ none
+  unfolding first-below
+  first-none zero f h = refl
+  first-none (suc n) f h = rw (first-none n f (λ i l. h i (omega arith))) (h n (le-refl (suc n)))
+
+  pub first-at : (n : ℕ) (f : ℕ → Option A) (i : ℕ) (a : A) → i < n → f i ≡ some a → ((j : ℕ) → j < i → f j ≡ none) → first-below n f ≡ some a
+  unfolding first-below
+  first-at zero f i a l e h = absurd (not-suc-le-zero l)
+  first-at (suc n) f i a l e h = same? i n
+      (λ q. rw (first-none n f (λ j o. h j (omega arith))) (rw q at e))
+      (λ q. rw (first-at n f i a (omega arith) e h))
+
+  -- there is none, or a first one
+  pub first-cases : {P : Type 0} (n : ℕ) (f : ℕ → Option A) → (((i : ℕ) → i < n → f i ≡ none) → P)
+      → ((i : ℕ) (a : A) → i < n → f i ≡ some a → ((j : ℕ) → j < i → f j ≡ none) → P) → P
+  first-cases zero f x y = x (λ i l. absurd (not-suc-le-zero l))
+  first-cases {P} (suc n) f x y = first-cases n f (λ h. here (f n) refl h) (λ i a l. y i a (omega arith))
+    where
+      here : (o : Option A) → f n ≡ o → ((i : ℕ) → i < n → f i ≡ none) → P
+      here none e h = x (λ i l. same? i n (λ q. rw q e) (λ q. h i (omega arith)))
+      here (some a) e h = y n a (le-refl (suc n)) e h
 
 -- ---- sums
 

@@ -9,10 +9,10 @@ use mathlib.Core.List.{List, [], _∷_, _++_}
 use mathlib.Core.Option.{Option, none, some, Option·none-ne-some}
 use lib.Dec.{eqb}
 use borrow.Author.Tests.{eqb-true, eqb-false, ne-eqb, not-true}
-use Rattle.rules.specs.Table.{upd, any}
+use Rattle.rules.specs.Table.{upd, any, first-below}
 use Rattle.rules.specs.Bytes.{Command, Begin, Read, Write, Submit, Take, Decide, Apply, GiveUp}
 use Rattle.rules.specs.State.{Sheet, store, State, is-committed, is-written, claims}
-use Rattle.rules.specs.Steps.{mem, without, owns, next, fails-at, finds-invalid, has-entry, check, counted, effect, answer}
+use Rattle.rules.specs.Steps.{mem, without, owns, next, fails-at, finds-invalid, first-cause, has-entry, check, counted, effect, answer}
 use Rattle.rules.specs.Neighbours.{node-of, Untouched, differ, at-two-nodes}
 use Rattle.rules.proofs.Table.{bool, clash, same?, upd-same, upd-other, upd-at}
 
@@ -158,6 +158,9 @@ module _ (s : State) (n : ℕ) (p : Plan) (m : ℕ) (d : n ≢ m) where
   same-finding : (t : ℕ) → finds-invalid (touch s n p) m t ≡ finds-invalid s m t
   same-finding t = same-sheets (fails-at (touch s n p) t) (fails-at s t) (λ k e. rw e)
 
+  same-cause : (t : ℕ) → first-cause (touch s n p) m t ≡ first-cause s m t
+  same-cause t = ap (first-below (s .header .sheets)) (fun-ext (λ k. bool (owns s m k) (λ e. rw (e, not-both s n m k d e)) (λ e. rw e)))
+
   same-entry : (t : ℕ) → has-entry (touch s n p) m t ≡ has-entry s m t
   same-entry t = same-sheets (λ k. mem t (touch s n p .queue k)) (λ k. mem t (s .queue k)) (λ k e. rw e)
 
@@ -167,7 +170,7 @@ module _ (s : State) (n : ℕ) (p : Plan) where
   same-check (apply m t) d = rw (same-entry s n p m d t)
 
   pub same-answer : (w : Work) → n ≢ node w → answer (touch s n p) (command w) ≡ answer s (command w)
-  same-answer (take m) d = rw (same-finding s n p m d (next (touch s n p) m), same-taken s n p m d)
+  same-answer (take m) d = rw (same-cause s n p m d (next (touch s n p) m), same-taken s n p m d)
   same-answer (apply m t) d = refl
 
   pub same-plan : (w : Work) → n ≢ node w → plan (touch s n p) w ≡ plan s w

@@ -5,7 +5,7 @@ use Prim.Native.String.{String, [] as end, _∷_ as _then_, _++_}
 use mathlib.Core.Bool.{cond}
 use mathlib.Core.List.{List, [], _∷_}
 use lib.Dec.{eqb, ltb}
-use Rattle.rules.specs.Steps.{valid, invalid, accepted, content-is, took, commits, second-run}
+use Rattle.rules.specs.Steps.{x-granted, x-waiting, counter-behind, Rule, valid, invalid, accepted, content-is, took, commits, second-run}
 use Rattle.rules.specs.Calls.{Reply, no-command, answers, refusal}
 
 -- ---- Texts as bytes
@@ -40,6 +40,10 @@ pub record Case : Type 0 where
 
 abbrev case : String → Reply → String → String → Case
 case s a p l = record { session = s; answer = a; shown = p; lines = l }
+
+-- a TAKE that finds save t invalid at sheet k
+abbrev fails : ℕ → ℕ → Rule → Reply
+fails t k r = answers (took t (invalid (record { sheet = k; rule = r })))
 
 -- the fresh session
 abbrev fresh : String
@@ -79,7 +83,7 @@ starred =
     -- an empty claim commits
     ∷ case (fresh ++ "01 00  04 00  06 00") (answers commits) "" "P 0 1 C\nO 0 0 0\nT 3 1 0\n"
     -- 0 holds S, 1's X waits, 2 asks for S: it is failed and waits behind 1
-    ∷ case (three ++ "05 00  05 00  05 00") (answers (took 2 invalid)) "" "P 0 1 U\nP 1 1 U\nP 2 1 U\nO 0 0 0\nT 13 0 0\n"
+    ∷ case (three ++ "05 00  05 00  05 00") (fails 2 0 x-waiting) "" "P 0 1 U\nP 1 1 U\nP 2 1 U\nO 0 0 0\nT 13 0 0\n"
     ∷ case (three ++ "05 00  05 00  05 00  06 02") (refusal 37 10) "06 02" "P 0 1 U\nP 1 1 U\nP 2 1 U\nO 0 0 0\nT 13 0 0\nR 37 10\n"
     -- GIVE UP in the second run, then APPLY; in the first run
     ∷ case (W-43 ++ "08 01  07 00 01") (answers accepted) "" "P 0 1 C\nP 1 2 D\nO 0 7 1\nO 1 0 0\nT 15 1 0\n"
@@ -110,13 +114,13 @@ refusals =
 -- the answers on the way through W, and two places where a reading that looks natural goes wrong
 abbrev pub others : List Case
 others =
-    case W-36 (answers (took 1 invalid)) "" "P 0 1 U\nP 1 1 U\nO 0 0 0\nO 1 0 0\nT 10 0 0\n"
+    case W-36 (fails 1 0 x-granted) "" "P 0 1 U\nP 1 1 U\nO 0 0 0\nO 1 0 0\nT 10 0 0\n"
     ∷ case W-38 (answers commits) "" "P 0 1 C\nP 1 1 U\nO 0 0 0\nO 1 0 0\nT 11 1 0\n"
     ∷ case W-43 (answers second-run) "" "P 0 1 C\nP 1 2 U\nO 0 7 1\nO 1 0 0\nT 13 1 0\n"
     -- save 1 fails at sheet 0 and still has its entry at sheet 1, behind which save 2's X waits
     ∷ case ("01 02 00 00  01 00  01 01  01 02  02 00 00  03 00 00 00 00 00 01  02 01 00  02 01 01  02 02 01  03 02 01 00 00 00 01  " ++ "04 00  04 01  04 02  05 00  05 00  05 00  06 02") (refusal 48 10) "06 02" "P 0 1 U\nP 1 1 U\nP 2 1 U\nO 0 0 0\nO 1 0 0\nT 15 0 0\nR 48 10\n"
     -- save 0 is committed and not carried out: its X still fails save 1
-    ∷ case (fresh ++ "01 00  01 01  02 00 00  02 01 00  03 00 00 00 00 00 01  04 00  04 01  05 00  06 00  05 00") (answers (took 1 invalid)) "" "P 0 1 C\nP 1 1 U\nO 0 0 0\nT 10 1 0\n"
+    ∷ case (fresh ++ "01 00  01 01  02 00 00  02 01 00  03 00 00 00 00 00 01  04 00  04 01  05 00  06 00  05 00") (fails 1 0 x-granted) "" "P 0 1 C\nP 1 1 U\nO 0 0 0\nT 10 1 0\n"
     ∷ []
 
 -- ---- Request 3
@@ -149,8 +153,36 @@ neighbours =
     ∷ case in-another (answers accepted) "" "P 0 1 C\nP 1 2 C\nO 0 7 1\nO 1 9 1\nT 24 1 1\n"
     -- node 0 finds save 1 invalid, node 1 finds it valid, whichever is first; the call's last answer is the last step's
     ∷ case (crossed ++ "05 00  05 00  05 01  05 01") (answers (took 1 valid)) "" all-taken
-    ∷ case (crossed ++ "05 01  05 01  05 00  05 00") (answers (took 1 invalid)) "" all-taken
+    ∷ case (crossed ++ "05 01  05 01  05 00  05 00") (fails 1 0 x-granted) "" all-taken
     -- a refused neighbour: the same two answers, but the stop has another offset, and what runs before it is counted
     ∷ case (one-taken ++ "05 00  05 01") (refusal 10 9) "05 00" "P 0 1 U\nO 0 0 0\nO 1 0 0\nT 3 0 0\nR 10 9\n"
     ∷ case (one-taken ++ "05 01  05 00") (refusal 12 9) "05 00" "P 0 1 U\nO 0 0 0\nO 1 0 0\nT 4 0 0\nR 12 9\n"
+    ∷ []
+
+-- ---- Request 4
+
+-- saves 0 and 1 read the sheet, 0 writes it; both submitted
+abbrev pair : String
+pair = fresh ++ "01 00  01 01  02 00 00  02 01 00  03 00 00 00 00 00 01  04 00  04 01  "
+
+-- saves 0, 1 and 2 read the sheet, 0 and 1 write it; 0 is carried out, then 1 and 2 are submitted
+abbrev overtaken : String
+overtaken = fresh ++ "01 00  01 01  01 02  02 00 00  02 01 00  02 02 00  03 00 00 00 00 00 01  03 01 00 00 00 00 02  04 00  05 00  06 00  07 00 00  04 01  04 02  "
+
+-- one node with sheets 0 and 1; save 0 writes 0, save 1 writes 1, save 2 reads both; 0 is carried out, then 1 and 2 are submitted
+abbrev two-sheets : String
+two-sheets = "01 02 00 00  01 00  01 01  01 02  02 00 00  03 00 00 00 00 00 01  02 01 01  03 01 01 00 00 00 02  02 02 00  02 02 01  04 00  05 00  06 00  07 00 00  04 01  04 02  "
+
+abbrev pub causes : List Case
+causes =
+    -- the counter alone; an X granted alone is in W-36, and an X waiting alone in the starred cases
+    case (pair ++ "05 00  06 00  07 00 00  05 00") (fails 1 0 counter-behind) "" "P 0 1 C\nP 1 1 U\nO 0 1 1\nT 11 1 0\n"
+    -- two causes on one sheet: save 1's X is granted, and the counter is behind
+    ∷ case (overtaken ++ "05 00  05 00") (fails 2 0 x-granted) "" "P 0 1 C\nP 1 1 U\nP 2 1 U\nO 0 1 1\nT 16 1 0\n"
+    -- on two sheets: the counter is behind at sheet 0, and save 1's X is granted at sheet 1
+    ∷ case (two-sheets ++ "05 00  05 00") (fails 2 0 counter-behind) "" "P 0 1 C\nP 1 1 U\nP 2 1 U\nO 0 1 1\nO 1 0 0\nT 17 1 0\n"
+    -- sheet 0 passes; at sheet 1 save 0's X waits behind save 1's S
+    ∷ case ("01 02 00 00  01 00  01 01  01 02  02 00 01  03 00 01 00 00 00 01  02 01 01  02 02 00  02 02 01  04 01  04 00  04 02  05 00  05 00  05 00") (fails 2 1 x-waiting) "" "P 1 1 U\nP 0 1 U\nP 2 1 U\nO 0 0 0\nO 1 0 0\nT 14 0 0\n"
+    -- node 0 found save 1 valid; node 1 has save 0's X at sheet 1
+    ∷ case ("02 02 00 01  01 00  01 01  02 00 01  03 00 01 00 00 00 01  02 01 00  02 01 01  04 00  04 01  05 00  05 00  05 01  05 01") (fails 1 1 x-granted) "" "P 0 1 U\nP 1 1 U\nO 0 0 0\nO 1 0 0\nT 12 0 0\n"
     ∷ []

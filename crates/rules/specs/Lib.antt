@@ -4,6 +4,7 @@ pub mod Bytes
 pub mod State
 pub mod Steps
 pub mod WhichPhase
+pub mod Causes
 pub mod Serial
 pub mod Demand3
 pub mod Calls

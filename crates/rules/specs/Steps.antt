@@ -2,9 +2,10 @@
 use Prim.Native.Nat.{ℕ, suc}
 use mathlib.Core.Bool.{Bool, true, false, not, _&&_, _||_, cond}
 use mathlib.Core.List.{List, [], _∷_, _++_}
+use mathlib.Core.Option.{Option, none, some}
 use lib.ListN.{length, getD}
 use lib.Dec.{eqb, ltb}
-use Rattle.rules.specs.Table.{upd, upd2, row, all, any}
+use Rattle.rules.specs.Table.{upd, upd2, row, all, any, first-below}
 use Rattle.rules.specs.Bytes.{Operand, save, sheet, node, limit, Command, Begin, Read, Write, Submit, Take, Decide, Apply, GiveUp}
 use Rattle.rules.specs.State.{Sheet, store, Phase, first, submitted, second, committed, dropped, Mark, absent, copied, written, Claim, unclaimed, shared, exclusive, Tally, State, is-unused, is-first, is-second, is-submitted, is-committed, running, over, has-copy, is-written, claims, is-x}
 
@@ -282,11 +283,45 @@ effect s (Decide t) = decide-save (s .failed t) s t
 effect s (Apply n t) = apply-save s n t
 effect s (GiveUp t) = with-phase s t dropped (counted (s .tally))
 
+-- ---- Why the check failed
+
+-- "The rules are: X granted, X waiting, counter behind."
+pub data Rule : Type 0 where
+  x-granted x-waiting counter-behind : Rule
+
+-- a cause: "sheet and rule"
+pub record Cause : Type 0 where
+  pub sheet : ℕ
+  pub rule : Rule
+
+-- "on one sheet the X comes before the counter: X granted where the queue's front entry is an X, else X waiting where it holds one"
+abbrev pub rule-met : (x-in-front x-in-queue behind : Bool) → Option Rule
+rule-met true x b = some x-granted
+rule-met false true b = some x-waiting
+rule-met false false true = some counter-behind
+rule-met false false false = none
+
+abbrev pub cause-by : ℕ → Option Rule → Option Cause
+cause-by k none = none
+cause-by k (some r) = some (record { sheet = k; rule = r })
+
+-- what node n meets at sheet k, if it owns the sheet and save t claims it
+abbrev pub cause-at : State → (n t k : ℕ) → Option Cause
+cause-at s n t k =
+    cond (owns s n k && claims (s .claim t k))
+    (cause-by k (rule-met (at-front (x-on (s .claim) k) (s .queue k)) (holds (x-on (s .claim) k) (s .queue k)) (ltb (s .copy t k .wct) (s .sheet k .wct))))
+    none
+
+-- "the first cause it met": "sheets count in rising number"
+abbrev pub first-cause : State → (n t : ℕ) → Option Cause
+first-cause s n t = first-below (s .header .sheets) (cause-at s n t)
+
 -- ---- Answers
 
--- "whether this node found it valid"
+-- "whether this node found it valid", and "where this node found the save invalid, the first cause it met"
 pub data Verdict : Type 0 where
-  valid invalid : Verdict
+  valid : Verdict
+  invalid : Cause → Verdict
 
 -- READ the content, TAKE the save and the verdict, DECIDE the outcome, the others that they were accepted
 pub data Answer : Type 0 where
@@ -296,9 +331,10 @@ pub data Answer : Type 0 where
   commits : Answer
   second-run : Answer
 
-abbrev pub verdict : (found-invalid : Bool) → Verdict
-verdict true = invalid
-verdict false = valid
+-- that there is a cause exactly where the save is found invalid is a law (Causes)
+abbrev pub verdict : Option Cause → Verdict
+verdict none = valid
+verdict (some c) = invalid c
 
 abbrev pub decision : (failed : Bool) → Answer
 decision true = second-run
@@ -309,7 +345,7 @@ answer s (Begin t) = accepted
 answer s (Read t k) = content-is (read-copy (s .mark t k) (s .copy t k) (s .sheet k) .content)
 answer s (Write t k v) = accepted
 answer s (Submit t) = accepted
-answer s (Take n) = took (next s n) (verdict (finds-invalid s n (next s n)))
+answer s (Take n) = took (next s n) (verdict (first-cause s n (next s n)))
 answer s (Decide t) = decision (s .failed t)
 answer s (Apply n t) = accepted
 answer s (GiveUp t) = accepted

@@ -4,12 +4,13 @@ use mathlib.Core.Path.{_≡_, refl, sym, _∙_}
 use mathlib.Core.Bool.{Bool, true, false, not, _&&_, _||_, and-true, and-false}
 use mathlib.Core.Logic.{_≢_}
 use mathlib.Core.List.{List, []}
+use mathlib.Core.Option.{some}
 use native.Mathlib.Omega.{arith}
 use lib.ListN.{getD}
 use lib.Dec.{eqb, ltb}
 use borrow.Author.Tests.{eq-eqb, ne-eqb}
 use Rattle.rules.specs.State.{claims}
-use Rattle.rules.specs.Steps.{mem, holds, x-on, fails-at, has-entry}
+use Rattle.rules.specs.Steps.{mem, holds, x-on, fails-at, x-granted, x-waiting, counter-behind, rule-met, has-entry}
 use Rattle.rules.proofs.Places.{at}
 use Rattle.rules.proofs.Table.{same?}
 use Rattle.state.specs.Parts.{Parts, WCT, CLAIM, STANDING, OWNER, ORDER, PLACE, TAKEN}
@@ -43,6 +44,19 @@ module _ {m : ℕ} (d : Parts) {k : ℕ} (km : k < m) (t : ℕ) {c : ℕ} (ec : 
   pub taken-read : {n q upto : ℕ} → n ≡ getD (d OWNER) k 0 → q ≡ getD (d PLACE) t 0 → upto ≡ getD (d TAKEN) n 0
       → taken-at (view m d [] [] [] no-tally) t k ≡ (not (set? c) || ltb q upto)
   taken-read en eq eu = rw (← claims-read, ← en, ← eq, ← eu)
+
+-- ---- The rule at a sheet that fails, by the front entry and the queue
+
+module _ {f front : Bool} (ef : f ≡ front) where
+  pub granted-there : f ≡ true → (held : Bool) → some x-granted ≡ rule-met front held true
+  granted-there y held = rw (← ef, y)
+
+  module _ (z : f ≡ false) {x held : Bool} (ex : x ≡ held) where
+    pub waiting-there : x ≡ true → some x-waiting ≡ rule-met front held true
+    waiting-there y = rw (← ef, z, ← ex, y)
+
+    pub behind-there : x ≡ false → some counter-behind ≡ rule-met front held true
+    behind-there y = rw (← ef, z, ← ex, y)
 
 -- ---- A save that stands at a node has an entry at each sheet that it claims there, another has none
 

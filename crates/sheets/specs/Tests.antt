@@ -1,14 +1,19 @@
--- What DECIDE and APPLY ask, in the rules' words where the rules' state shows it.
+-- What TAKE, DECIDE and APPLY ask, in the rules' words where the rules' state shows it.
 use Prim.Native.Nat.{ℕ, _+_, _*_}
-use mathlib.Core.Bool.{Bool, not, _&&_, _||_}
+use mathlib.Core.Bool.{Bool, true, not, _&&_, _||_}
+use mathlib.Core.Option.{Option}
 use lib.ListN.{getD}
 use lib.Dec.{eqb, ltb}
 use Rattle.rules.specs.Table.{all, any}
 use Rattle.rules.specs.State.{State, claims}
-use Rattle.rules.specs.Steps.{owns, has-taken, granted}
+use Rattle.rules.specs.Steps.{holds, at-front, x-on, Rule, rule-met, owns, has-taken, granted}
 use Rattle.rules.proofs.Places.{at}
 use Rattle.state.specs.Parts.{Parts, STANDING, ORDER, PLACE, TAKEN}
 use Rattle.state.specs.View.{set?}
+
+-- the rule that a save fails by at sheet k, where it fails
+abbrev pub rule-at : State → (k : ℕ) → Option Rule
+rule-at s k = rule-met (at-front (x-on (s .claim) k) (s .queue k)) (holds (x-on (s .claim) k) (s .queue k)) true
 
 -- save t claims nothing at sheet k, or its node has taken it
 abbrev pub taken-at : State → (t k : ℕ) → Bool

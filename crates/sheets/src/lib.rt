@@ -2,13 +2,18 @@
 // Each goes by the list of these sheets.
 ghost use Prim.Native.Nat.{_<_};
 ghost use mathlib.Core.Path.{_≡_};
-ghost use Rattle.rules.specs.Steps.{fails-at, finds-invalid, has-entry};
+ghost use mathlib.Core.Option.{some};
+ghost use Rattle.rules.specs.Steps.{fails-at, verdict, first-cause, has-entry};
 ghost use Rattle.state.specs.Parts.{bytes, hints};
 ghost use Rattle.state.specs.Ready.{Ready, Trimmed, Hints, Table};
 ghost use Rattle.state.specs.Lent.{own, taking, seen-by};
-ghost use Rattle.sheets.specs.Tests.{taken-at, taken-everywhere, granted-everywhere, claims-at, stands-at};
+ghost use Rattle.state.specs.View.{rule-of, verdict-of};
+ghost use Rattle.sheets.specs.Tests.{rule-at, taken-at, taken-everywhere, granted-everywhere, claims-at, stands-at};
+use state::Cause;
+use state::Rule;
 use state::Session;
 use state::UNCLAIMED;
+use state::Verdict;
 
 // Save t fails at sheet k. The queue is walked last: that takes the longest.
 fn fails_at(b: &[u8], seen: &[u32], w: &[u32], m: usize, k: usize, t: u8) -> bool
@@ -28,33 +33,47 @@ fn fails_at(b: &[u8], seen: &[u32], w: &[u32], m: usize, k: usize, t: u8) -> boo
     queues::holds_x(b, m, k)
 }
 
-// TAKE: node n finds save t invalid at one of its sheets.
-pub fn finds_invalid(
-    b: &[u8],
-    listed: &[u16],
-    seen: &[u32],
-    w: &[u32],
-    m: usize,
-    n: u8,
-    t: u8,
-) -> bool
+// The rule that a save fails by at sheet k: where it fails and the queue holds no X, the counter is behind.
+fn rule_at(b: &[u8], m: usize, k: usize) -> Rule
+    requires { ⌜ Ready m (bytes m (now b)) × Trimmed (bytes m (now b)) × (k < m) ⌝ }
+    ensures { λ r. ⌜ some (rule-of r) ≡ rule-at (seen-by m (own (now (b .entry)))) k ⌝ }
+{
+    let f = queues::front_x(b, m, k);
+    if f {
+        return Rule::XGranted;
+    }
+    let x = queues::holds_x(b, m, k);
+    if x {
+        return Rule::XWaiting;
+    }
+    Rule::CounterBehind
+}
+
+// TAKE: what node n finds save t. The sheets are listed in rising number, and the first that fails is the cause.
+pub fn finding(b: &[u8], listed: &[u16], seen: &[u32], w: &[u32], m: usize, n: u8, t: u8) -> Verdict
     requires { ⌜ Ready m (bytes m (now b)) × Hints m (bytes m (now b)) (hints m (now listed)) × Table 32 m (now seen) × Table 2 m (now w) × (t < 32) ⌝ }
-    ensures { λ r. ⌜ r ≡ finds-invalid (seen-by m (taking (now (b .entry)) (now (seen .entry)) (now (w .entry)))) n t ⌝ }
+    ensures { λ r. ⌜ verdict-of r ≡ verdict (first-cause (seen-by m (taking (now (b .entry)) (now (seen .entry)) (now (w .entry)))) n t) ⌝ }
 {
     let ti = t as usize;
-    let mut i = state::many(listed, m, ti) as usize;
-    while 0 < i {
-        i -= 1;
-        let k = state::sheet_at(listed, m, ti, i) as usize;
+    let upto = state::many(listed, m, ti) as usize;
+    let mut i: usize = 0;
+    while i < upto {
+        let sheet = state::sheet_at(listed, m, ti, i);
+        i += 1;
+        let k = sheet as usize;
         let o = state::owner(b, m, k);
         if o == n {
             let f = fails_at(b, seen, w, m, k, t);
             if f {
-                return true;
+                let rule = rule_at(b, m, k);
+                return Verdict::Invalid(Cause {
+                    sheet: sheet,
+                    rule: rule,
+                });
             }
         }
     }
-    false
+    Verdict::Valid
 }
 
 // Save t claims nothing at sheet k, or its node has taken it.

@@ -61,6 +61,7 @@ listed-none m claim listed many zc zm = record {
   few = λ t h. rw (zm t) (omega arith);
   lists = λ t h. record {
     below = λ i l. absurd (not-suc-le-zero (rw (zm t) at l));
+    rising = λ i j h l. absurd (not-suc-le-zero (rw (zm t) at l));
     whole = λ k l n. absurd (n (zc (t * m + k)));
   };
 }
@@ -70,6 +71,7 @@ module _ {k n : ℕ} {place listed : ℕ → ℕ} (l : Lists k place listed n) w
   pub lists-past : place k ≡ 0 → Lists (k + 1) place listed n
   lists-past e = record {
     below = λ i h. omega (arith, l .below i h);
+    rising = l .rising;
     whole = λ j h z. same? j k (λ q. absurd (z (rw q e))) (λ q. l .whole j (omega arith) z);
   }
 
@@ -77,6 +79,7 @@ module _ {k n : ℕ} {place listed : ℕ → ℕ} (l : Lists k place listed n) w
   pub lists-on : (more : ℕ → ℕ) → more n ≡ k → ((i : ℕ) → i < n → more i ≡ listed i) → Lists (k + 1) place more (n + 1)
   lists-on more e o = record {
     below = λ i h. same? i n (λ q. rw (q, e) (omega arith)) (λ q. rw (o i (omega arith)) (omega (arith, l .below i (omega arith))));
+    rising = λ i j h g. rw (o i (omega arith)) (same? j n (λ q. rw (q, e) (l .below i (omega arith))) (λ q. rw (o j (omega arith)) (l .rising i j h (omega arith))));
     whole = λ j h z. same? j k
         (λ q. (n, omega arith, e ∙ sym q))
         (λ q. let w = l .whole j (omega arith) z in (w .0, omega (arith, w .1), o (w .0) (w .1) ∙ w .2));
@@ -101,6 +104,7 @@ listed-row {m} {claim} {listed} {many} l mark more t n lt lc nm row other = reco
         → Lists m (λ k. getD (fill (λ j. getD mark (t * m + j) 0) (t * m) m claim) (t * m + k) 0) (λ i. getD more (t * m + i) 0) n
     new r = record {
       below = r .below;
+      rising = r .rising;
       whole = λ k h z. r .whole k h (λ e. z (fill-in (λ j. getD mark (t * m + j) 0) (t * m) m claim k h lc ∙ e));
     }
 
@@ -108,6 +112,7 @@ listed-row {m} {claim} {listed} {many} l mark more t n lt lc nm row other = reco
         → Lists m (λ k. getD (fill (λ j. getD mark (t * m + j) 0) (t * m) m claim) (x * m + k) 0) (λ i. getD more (x * m + i) 0) (getD many x 0)
     old x h z = record {
       below = λ i j. let f = l .few x h in rw (other x i z (omega arith)) (l .lists x h .below i j);
+      rising = λ i j g u. let f = l .few x h in rw (other x i z (omega arith), other x j z (omega arith)) (l .lists x h .rising i j g u);
       whole = λ k j c.
           let w = l .lists x h .whole k j (λ e. c (fill-out (λ j. getD mark (t * m + j) 0) (t * m) m claim (x * m + k) (λ y r q. z (cell-same m j r q)) ∙ e)) in
           let f = l .few x h in

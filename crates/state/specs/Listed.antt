@@ -5,9 +5,10 @@ use mathlib.Core.Logic.{_≢_}
 use mathlib.Core.List.{List}
 use lib.ListN.{getD}
 
--- n numbers below a bound, with every place below it that is not 0
+-- n numbers below a bound in rising order, with every place below it that is not 0
 pub record Lists (bound : ℕ) (place listed : ℕ → ℕ) (n : ℕ) : Type 0 where
   pub below : (i : ℕ) → i < n → listed i < bound
+  pub rising : (i j : ℕ) → i < j → j < n → listed i < listed j
   pub whole : (k : ℕ) → k < bound → place k ≢ 0 → (i : ℕ) × (i < n) × (listed i ≡ k)
 
 -- each row of m has the sheets that its save claims

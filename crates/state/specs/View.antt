@@ -9,6 +9,9 @@ use Rattle.rules.specs.State.{Phase, unused, first, submitted, second, committe
 use Rattle.rules.specs.Steps as rules
 use Rattle.rules.specs.Steps.{Result, answered, refused, counted, counted-first, counted-second}
 use Rattle.state.specs.Parts.{Parts, CONTENT, WCT, MARK, CLAIM, STANDING, OWNER, PHASE, FAILED, RUNS, ORDER, PLACE, TAKEN, NODES, PLACED}
+use Rattle.state.specs.declared.Rule.{Rule}
+use Rattle.state.specs.declared.Rule.the-variants.{XGranted, XWaiting, CounterBehind}
+use Rattle.state.specs.declared.Cause.{Cause}
 use Rattle.state.specs.declared.Verdict.{Verdict}
 use Rattle.state.specs.declared.Verdict.the-variants.{Valid, Invalid}
 use Rattle.state.specs.declared.Answer.{Answer}
@@ -93,9 +96,20 @@ no-tally = record { accepted = 0; from-first = 0; from-second = 0 }
 
 -- ---- Answers
 
+-- "X granted, X waiting, counter behind"
+abbrev pub rule-of : Rule → rules.Rule
+rule-of XGranted = rules.x-granted
+rule-of XWaiting = rules.x-waiting
+rule-of CounterBehind = rules.counter-behind
+
+-- "sheet and rule"
+abbrev pub cause-of : Cause → rules.Cause
+cause-of c = record { sheet = c .sheet; rule = rule-of (c .rule) }
+
+-- valid, or invalid with the first cause
 abbrev pub verdict-of : Verdict → rules.Verdict
 verdict-of Valid = rules.valid
-verdict-of Invalid = rules.invalid
+verdict-of (Invalid c) = rules.invalid (cause-of c)
 
 -- the paper's value or refusal number of each answer
 abbrev pub result-of : Answer → Result

@@ -103,10 +103,22 @@ impl Session {
     pub const WCT: usize = 1;
 }
 
-// What a node finds a save at its TAKE.
+// Why a save fails at a sheet.
+pub enum Rule {
+    XGranted,
+    XWaiting,
+    CounterBehind,
+}
+
+pub struct Cause {
+    pub sheet: u16,
+    pub rule: Rule,
+}
+
+// What a node finds a save at its TAKE: where it is invalid, the first cause that the node met.
 pub enum Verdict {
     Valid,
-    Invalid,
+    Invalid(Cause),
 }
 
 // `Recommits` is a second run's SUBMIT: accepted, and the tally counts it.

@@ -5,6 +5,8 @@ ghost use Rattle.wire.specs.Meaning.{command-of};
 ghost use Rattle.worked.specs.Worked.{command-at};
 use libc::STDOUT_FILENO;
 use state::Answer;
+use state::Cause;
+use state::Rule;
 use state::Session;
 use state::Verdict;
 use wire::Command;
@@ -43,10 +45,21 @@ fn number(n: u32) {
     io::print_decimal(STDOUT_FILENO, n as u64);
 }
 
+fn print_cause(cause: Cause) {
+    say(b" invalid ");
+    number(cause.sheet as u32);
+    let rule = cause.rule;
+    match rule {
+        Rule::XGranted => say(b" granted\n"),
+        Rule::XWaiting => say(b" waiting\n"),
+        Rule::CounterBehind => say(b" behind\n"),
+    }
+}
+
 fn print_verdict(v: Verdict) {
     match v {
         Verdict::Valid => say(b" valid\n"),
-        Verdict::Invalid => say(b" invalid\n"),
+        Verdict::Invalid(cause) => print_cause(cause),
     }
 }
 

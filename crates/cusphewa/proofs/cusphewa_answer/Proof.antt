@@ -1,6 +1,6 @@
 -- Answer by answer, its number.
 use native.Mathlib.Omega.{arith}
-use Rattle.cusphewa.proofs.Laws.{told, verdict-small, near-refused}
+use Rattle.cusphewa.proofs.Laws.{told, near-refused}
 use borrow.Author.Needs.{needs}
 use Rattle.cusphewa.proofs.cusphewa_answer.Statement.{statement}
 use Rattle.cusphewa.proofs.cusphewa_answer.Tie as tie
@@ -32,32 +32,26 @@ code-requires-3 c κs = search needs
 enum-known-answer-2 : tie.Need-enum-known-answer-2
 enum-known-answer-2 c = search needs
 
-take-kind-requires : tie.Need-take-kind-requires
-take-kind-requires c κs = search needs
-
-cast-code-2 : tie.Need-cast-code-2
-cast-code-2 c = search needs
-
-code-requires-4 : tie.Need-code-requires-4
-code-requires-4 c κs = omega (arith, c .take-kind .ensures, verdict-small (c .before .before .answer2 .given .0 .1 .0))
+take-code-requires : tie.Need-take-code-requires
+take-code-requires c κs = search needs
 
 enum-told-3 : tie.Need-enum-told-3
 enum-told-3 c = search needs
 
-code-requires-5 : tie.Need-code-requires-5
-code-requires-5 c κs = search needs
+code-requires-4 : tie.Need-code-requires-4
+code-requires-4 c κs = search needs
 
 enum-told-4 : tie.Need-enum-told-4
 enum-told-4 c = search needs
 
-code-requires-6 : tie.Need-code-requires-6
-code-requires-6 c κs = search needs
+code-requires-5 : tie.Need-code-requires-5
+code-requires-5 c κs = search needs
 
 enum-known-answer-3 : tie.Need-enum-known-answer-3
 enum-known-answer-3 c = search needs
 
-code-requires-7 : tie.Need-code-requires-7
-code-requires-7 c κs = omega (arith, near-refused _ _ _ (c .before .answer3 .given .1) (c .before .before .before .last-answer .ensures .1))
+code-requires-6 : tie.Need-code-requires-6
+code-requires-6 c κs = omega (arith, near-refused _ _ _ (c .before .answer3 .given .1) (c .before .before .before .last-answer .ensures .1))
 
 returns : tie.Need-returns
 returns c = told _ _ _ (c .before .before .before .last-answer .ensures .0) (c .before .enum-told .given .1) (c .code .ensures)
@@ -69,16 +63,16 @@ returns-3 : tie.Need-returns-3
 returns-3 c = told _ _ _ (c .before .before .before .before .last-answer .ensures .0) (c .before .before .answer .given .1) (c .code3 .ensures)
 
 returns-4 : tie.Need-returns-4
-returns-4 c = told _ _ _ (c .before .before .before .before .before .last-answer .ensures .0) (c .before .before .before .answer2 .given .1) (rw (c .before .take-kind .ensures) at (c .code4 .ensures))
+returns-4 c = told _ _ _ (c .before .before .before .before .last-answer .ensures .0) (c .before .before .answer2 .given .1) (c .take-code .ensures)
 
 returns-5 : tie.Need-returns-5
-returns-5 c = told _ _ _ (c .before .before .before .last-answer .ensures .0) (c .before .enum-told3 .given .1) (c .code5 .ensures)
+returns-5 c = told _ _ _ (c .before .before .before .last-answer .ensures .0) (c .before .enum-told3 .given .1) (c .code4 .ensures)
 
 returns-6 : tie.Need-returns-6
-returns-6 c = told _ _ _ (c .before .before .before .last-answer .ensures .0) (c .before .enum-told4 .given .1) (c .code6 .ensures)
+returns-6 c = told _ _ _ (c .before .before .before .last-answer .ensures .0) (c .before .enum-told4 .given .1) (c .code5 .ensures)
 
 returns-7 : tie.Need-returns-7
-returns-7 c = told _ _ _ (c .before .before .before .before .last-answer .ensures .0) (c .before .before .answer3 .given .1) (c .code7 .ensures)
+returns-7 c = told _ _ _ (c .before .before .before .before .last-answer .ensures .0) (c .before .before .answer3 .given .1) (c .code6 .ensures)
 
 pub cusphewa-answer-spec : {M : Type 1} → statement M
 cusphewa-answer-spec =
@@ -93,15 +87,13 @@ cusphewa-answer-spec =
     cast-code
     code-requires-3
     enum-known-answer-2
-    take-kind-requires
-    cast-code-2
-    code-requires-4
+    take-code-requires
     enum-told-3
-    code-requires-5
+    code-requires-4
     enum-told-4
-    code-requires-6
+    code-requires-5
     enum-known-answer-3
-    code-requires-7
+    code-requires-6
     returns
     returns-2
     returns-3

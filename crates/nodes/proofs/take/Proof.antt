@@ -65,8 +65,8 @@ returns-3 c = let s = c .before .before .before .before .before .before .before 
       own-keeps (s .args .b .now) _ (c .before .before .move-on .ensures) (holds-moved (s .pre .0) (s .args .n) ln (c .before .before .before .before .before .before .before .before .before .before .before .before .taken .ensures) h),
     )
 
-finds-invalid-requires : tie.Need-finds-invalid-requires
-finds-invalid-requires c κs = let s = c .before .before .before .before .before .before .before .before .before .before .before .before .before .before .before .before .before .before in
+finding-requires : tie.Need-finding-requires
+finding-requires c κs = let s = c .before .before .before .before .before .before .before .before .before .before .before .before .before .before .before .before .before .before in
     let ln = rw (c .before .before .before .before .before .before .before .before .before .before .before .before .nodes .ensures) at (c .before .before .before .before .before .before .before .before .before .before .before .if1 .left) in
     let h = rw (c .before .before .before .before .before .before .before .placed .ensures) at (c .before .before .before .before .before .before .if2 .left) in
     (s .pre .0, s .pre .1, s .pre .2, s .pre .3, save32 (s .pre .0) (s .args .n) ln (c .before .before .before .before .before .before .before .before .before .taken .ensures) h (c .before .before .before .before .order .ensures))
@@ -87,34 +87,46 @@ move-on-requires-2 c κs = let s = c .before .before .before .before .before .be
     let e = c .before .before .before .set-standing .ensures in
     (whole-standing (s .pre .0) (s .args .n) ln (c .before .before .before .before .before .before .before .before .before .before .before .before .before .before .before .taken .ensures) h _ _ e, node8 (s .pre .0) (s .args .n) ln, more-standing (s .pre .0) (s .args .n) ln (c .before .before .before .before .before .before .before .before .before .before .before .before .before .before .before .taken .ensures) h _ _ e)
 
+enum-told : tie.Need-enum-told
+enum-told c = search needs
+
+enum-known-v : tie.Need-enum-known-v
+enum-known-v c = search needs
+
 fail-requires : tie.Need-fail-requires
-fail-requires c κs = let s = c .before .before .before .before .before .before .before .before .before .before .before .before .before .before .before .before .before .before .before .before .before .before .before .before .before .before .before .before .before in
-    let ln = rw (c .before .before .before .before .before .before .before .before .before .before .before .before .before .before .before .before .before .before .before .before .before .before .before .nodes .ensures) at (c .before .before .before .before .before .before .before .before .before .before .before .before .before .before .before .before .before .before .before .before .before .before .if1 .left) in
-    let h = rw (c .before .before .before .before .before .before .before .before .before .before .before .before .before .before .before .before .before .before .placed .ensures) at (c .before .before .before .before .before .before .before .before .before .before .before .before .before .before .before .before .before .if2 .left) in
-    (whole-entered (s .pre .0) (s .args .n) ln (c .before .before .before .before .before .before .before .before .before .before .before .before .before .before .before .before .before .before .before .before .taken .ensures) h _ _ (c .before .before .before .before .before .before .before .before .set-standing .ensures) (c .before .before .before .before .move-on2 .ensures), save32 (s .pre .0) (s .args .n) ln (c .before .before .before .before .before .before .before .before .before .before .before .before .before .before .before .before .before .before .before .before .taken .ensures) h (c .before .before .before .before .before .before .before .before .before .before .before .before .before .before .before .order .ensures))
+fail-requires c κs =
+    let q = c .before .before .before .before .before .before .before .before .before .before .before .before .before in
+    let s = q .before .before .before .before .before .before .before .before .before .before .before .before .before .before .before .before .before .before in
+    let ln = rw (q .before .before .before .before .before .before .before .before .before .before .before .before .nodes .ensures) at (q .before .before .before .before .before .before .before .before .before .before .before .if1 .left) in
+    let h = rw (q .before .before .before .before .before .before .before .placed .ensures) at (q .before .before .before .before .before .before .if2 .left) in
+    (whole-entered (s .pre .0) (s .args .n) ln (q .before .before .before .before .before .before .before .before .before .taken .ensures) h _ _ (c .before .before .before .before .before .before .before .before .before .before .set-standing .ensures) (c .before .before .before .before .before .before .move-on2 .ensures), save32 (s .pre .0) (s .args .n) ln (q .before .before .before .before .before .before .before .before .before .taken .ensures) h (q .before .before .before .before .order .ensures))
 
 same-length-4 : tie.Need-same-length-4
 same-length-4 c = search needs
 
 returns-4 : tie.Need-returns-4
-returns-4 c = let s = c .before .before .before .before .before .before .before .before .before .before .before .before .before .before .before .before .before .before .before .before .before .before .before .before .before .before .before .before .before .before .before .before in
-    let ln = rw (c .before .before .before .before .before .before .before .before .before .before .before .before .before .before .before .before .before .before .before .before .before .before .before .before .before .before .nodes .ensures) at (c .before .before .before .before .before .before .before .before .before .before .before .before .before .before .before .before .before .before .before .before .before .before .before .before .before .if1 .left) in
-    let h = rw (c .before .before .before .before .before .before .before .before .before .before .before .before .before .before .before .before .before .before .before .before .before .placed .ensures) at (c .before .before .before .before .before .before .before .before .before .before .before .before .before .before .before .before .before .before .before .before .if2 .left) in
-    let e = failed-stored (s .pre .0) (s .args .n) ln (c .before .before .before .before .before .before .before .before .before .before .before .before .before .before .before .before .before .before .before .before .before .before .before .taken .ensures) h (c .before .before .before .before .before .before .before .before .before .before .before .before .before .before .before .before .before .before .order .ensures) (c .before .before .before .before .before .before .before .before .before .before .before .set-standing .ensures) (c .before .before .before .before .before .before .before .move-on2 .ensures) (c .before .before .fail .ensures) in (
-      taking-moves (s .args .b .now) _ e (s .args .seen .now) (s .args .w .now) (λ value. moves-invalid (s .pre .0) (s .args .n) ln (c .before .before .before .before .before .before .before .before .before .before .before .before .before .before .before .before .before .before .before .before .before .before .before .taken .ensures) h (c .before .before .before .before .before .before .before .before .before .before .before .before .before .before .before .before .before .before .order .ensures) (s .args .seen .now) (s .args .w .now) (c .before .before .before .before .before .before .before .before .before .before .before .before .before .finds-invalid .ensures) value (c .before .before .before .before .if4 .taken)),
-      own-keeps (s .args .b .now) _ e (holds-invalid (s .pre .0) (s .args .n) ln (c .before .before .before .before .before .before .before .before .before .before .before .before .before .before .before .before .before .before .before .before .before .before .before .taken .ensures) h (c .before .before .before .before .before .before .before .before .before .before .before .before .before .before .before .before .before .before .order .ensures)),
+returns-4 c =
+    let q = c .before .before .before .before .before .before .before .before .before .before .before in
+    let s = q .before .before .before .before .before .before .before .before .before .before .before .before .before .before .before .before .before .before in
+    let ln = rw (q .before .before .before .before .before .before .before .before .before .before .before .before .nodes .ensures) at (q .before .before .before .before .before .before .before .before .before .before .before .if1 .left) in
+    let h = rw (q .before .before .before .before .before .before .before .placed .ensures) at (q .before .before .before .before .before .before .if2 .left) in
+    let e = entered-stored (s .pre .0) (s .args .n) ln (q .before .before .before .before .before .before .before .before .before .taken .ensures) h (q .before .before .before .before .order .ensures) (c .before .before .before .before .before .before .before .before .set-standing .ensures) (c .before .before .before .before .move-on2 .ensures) in (
+      taking-moves (s .args .b .now) _ e (s .args .seen .now) (s .args .w .now) (λ value. moves-valid (s .pre .0) (s .args .n) ln (q .before .before .before .before .before .before .before .before .before .taken .ensures) h (q .before .before .before .before .order .ensures) (s .args .seen .now) (s .args .w .now) (c .before .before .before .before .before .before .before .before .before .before .finding .ensures) value (c .enum-told .given .1)),
+      own-keeps (s .args .b .now) _ e (holds-valid (s .pre .0) (s .args .n) ln (q .before .before .before .before .before .before .before .before .before .taken .ensures) h (q .before .before .before .before .order .ensures)),
     )
 
 same-length-5 : tie.Need-same-length-5
 same-length-5 c = search needs
 
 returns-5 : tie.Need-returns-5
-returns-5 c = let s = c .before .before .before .before .before .before .before .before .before .before .before .before .before .before .before .before .before .before .before .before .before .before .before .before .before .before .before .before in
-    let ln = rw (c .before .before .before .before .before .before .before .before .before .before .before .before .before .before .before .before .before .before .before .before .before .before .nodes .ensures) at (c .before .before .before .before .before .before .before .before .before .before .before .before .before .before .before .before .before .before .before .before .before .if1 .left) in
-    let h = rw (c .before .before .before .before .before .before .before .before .before .before .before .before .before .before .before .before .before .placed .ensures) at (c .before .before .before .before .before .before .before .before .before .before .before .before .before .before .before .before .if2 .left) in
-    let e = entered-stored (s .pre .0) (s .args .n) ln (c .before .before .before .before .before .before .before .before .before .before .before .before .before .before .before .before .before .before .before .taken .ensures) h (c .before .before .before .before .before .before .before .before .before .before .before .before .before .before .order .ensures) (c .before .before .before .before .before .before .before .set-standing .ensures) (c .before .before .before .move-on2 .ensures) in (
-      taking-moves (s .args .b .now) _ e (s .args .seen .now) (s .args .w .now) (λ value. moves-valid (s .pre .0) (s .args .n) ln (c .before .before .before .before .before .before .before .before .before .before .before .before .before .before .before .before .before .before .before .taken .ensures) h (c .before .before .before .before .before .before .before .before .before .before .before .before .before .before .order .ensures) (s .args .seen .now) (s .args .w .now) (c .before .before .before .before .before .before .before .before .before .finds-invalid .ensures) value (c .if4 .left)),
-      own-keeps (s .args .b .now) _ e (holds-valid (s .pre .0) (s .args .n) ln (c .before .before .before .before .before .before .before .before .before .before .before .before .before .before .before .before .before .before .before .taken .ensures) h (c .before .before .before .before .before .before .before .before .before .before .before .before .before .before .order .ensures)),
+returns-5 c =
+    let q = c .before .before .before .before .before .before .before .before .before .before .before .before .before .before .before .before in
+    let s = q .before .before .before .before .before .before .before .before .before .before .before .before .before .before .before .before .before .before in
+    let ln = rw (q .before .before .before .before .before .before .before .before .before .before .before .before .nodes .ensures) at (q .before .before .before .before .before .before .before .before .before .before .before .if1 .left) in
+    let h = rw (q .before .before .before .before .before .before .before .placed .ensures) at (q .before .before .before .before .before .before .if2 .left) in
+    let e = failed-stored (s .pre .0) (s .args .n) ln (q .before .before .before .before .before .before .before .before .before .taken .ensures) h (q .before .before .before .before .order .ensures) (c .before .before .before .before .before .before .before .before .before .before .before .before .before .set-standing .ensures) (c .before .before .before .before .before .before .before .before .before .move-on2 .ensures) (c .before .before .fail .ensures) in (
+      taking-moves (s .args .b .now) _ e (s .args .seen .now) (s .args .w .now) (λ value. moves-invalid (s .pre .0) (s .args .n) ln (q .before .before .before .before .before .before .before .before .before .taken .ensures) h (q .before .before .before .before .order .ensures) (s .args .seen .now) (s .args .w .now) (c .before .before .before .before .before .before .before .before .before .before .before .before .before .before .before .finding .ensures) value _ (c .before .before .before .before .before .v .given .1)),
+      own-keeps (s .args .b .now) _ e (holds-invalid (s .pre .0) (s .args .n) ln (q .before .before .before .before .before .before .before .before .before .taken .ensures) h (q .before .before .before .before .order .ensures)),
     )
 
 pub take-spec : {M : Type 1} → statement M
@@ -134,10 +146,12 @@ take-spec =
     move-on-requires
     same-length-3
     returns-3
-    finds-invalid-requires
+    finding-requires
     cast-ti
     set-standing-requires
     move-on-requires-2
+    enum-told
+    enum-known-v
     fail-requires
     same-length-4
     returns-4

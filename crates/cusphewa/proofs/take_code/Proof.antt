@@ -1,0 +1,49 @@
+-- A number for each verdict.
+use borrow.Author.Needs.{needs}
+use Rattle.cusphewa.proofs.take_code.Statement.{statement}
+use Rattle.cusphewa.proofs.take_code.Tie as tie
+
+enum-told : tie.Need-enum-told
+enum-told c = search needs
+
+code-requires : tie.Need-code-requires
+code-requires c κs = search needs
+
+enum-known-v : tie.Need-enum-known-v
+enum-known-v c = search needs
+
+cast-code : tie.Need-cast-code
+cast-code c = search needs
+
+mul-code : tie.Need-mul-code
+mul-code c = search needs
+
+add-code : tie.Need-add-code
+add-code c = search needs
+
+rule-number-requires : tie.Need-rule-number-requires
+rule-number-requires c κs = search needs
+
+code-requires-2 : tie.Need-code-requires-2
+code-requires-2 c κs = search needs
+
+returns : tie.Need-returns
+returns c = rw (c .before .enum-told .given .1) (c .code .ensures)
+
+returns-2 : tie.Need-returns-2
+returns-2 c = rw (c .before .before .before .v .given .1) (rw (c .before .rule-number .ensures) at (c .code2 .ensures))
+
+pub take-code-spec : {M : Type 1} → statement M
+take-code-spec =
+    tie.close
+    (tie.spec
+    enum-told
+    code-requires
+    enum-known-v
+    cast-code
+    mul-code
+    add-code
+    rule-number-requires
+    code-requires-2
+    returns
+    returns-2)
