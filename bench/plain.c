@@ -14,6 +14,10 @@ enum { UNUSED, FIRST_RUN, SECOND_RUN, SUBMITTED, COMMITTED, DROPPED };
 
 enum { NO_COMMAND, ACCEPTED, CONTENT, VALID, INVALID, DECIDED, SECOND, REFUSED, WRITTEN, LISTED };
 
+/* Why a TAKE found its save invalid: its value has the sheet above these bits and the save in them, its number is the rule. */
+enum { SHEET_AT = 16 };
+enum { X_GRANTED = 1, X_WAITING, COUNTER_BEHIND };
+
 struct save {
     uint64_t copied, written; /* sheets with a copy from this run; those of them written */
     uint64_t claim, claim_x;  /* the claim; where it is X */
@@ -91,6 +95,15 @@ static inline struct end refuse(const uint8_t *session, const uint8_t *at, uint3
 static inline uint32_t out_of_phase(const struct save *t)
 {
     return t->phase == UNUSED ? 13 : t->phase == COMMITTED || t->phase == DROPPED ? 14 : 5;
+}
+
+/* The rule of the last command's answer, a TAKE that found its save invalid. Nothing has changed since, but for the save's own entry,
+   which stands last; so no other TAKE has to look for its rule. */
+static inline uint32_t rule_of(const struct state *s, uint32_t value)
+{
+    uint32_t k = value >> SHEET_AT, place = s->save[value & ((1 << SHEET_AT) - 1)].place;
+    uint32_t before = ((uint32_t)1 << place) - 1, queue = s->queue[k] & before, x = s->queue_x[k] & before;
+    return queue & -queue & x ? X_GRANTED : x ? X_WAITING : COUNTER_BEHIND;
 }
 
 static inline struct end run(struct state *s, const uint8_t *session, size_t length)
@@ -191,20 +204,25 @@ static inline struct end run(struct state *s, const uint8_t *session, size_t len
             if (place == s->submitted)
                 REFUSE(9);
             s->taken[n]++;
-            uint32_t number_t = s->order[place], here = (uint32_t)1 << place, failed = 0;
+            uint32_t number_t = s->order[place], here = (uint32_t)1 << place;
             struct save *t = &s->save[number_t];
-            uint64_t ours = t->claim & s->owned[n];
+            uint64_t ours = t->claim & s->owned[n], failed = 0;
             t->held |= ours;
             for (uint64_t left = ours; left; left &= left - 1) {
                 uint32_t k = (uint32_t)__builtin_ctzll(left);
-                failed |= s->queue_x[k] != 0;
-                failed |= s->seen[number_t][k] < s->wct[k];
+                uint64_t fails = s->queue_x[k] != 0;
+                fails |= s->seen[number_t][k] < s->wct[k];
+                failed |= fails << k;
                 s->queue[k] |= here;
                 if (t->claim_x >> k & 1)
                     s->queue_x[k] |= here;
             }
-            t->failed |= (uint8_t)failed;
-            kind = failed ? INVALID : VALID, value = number_t;
+            /* All of them have their entries; the lowest one that failed is the cause's. */
+            kind = VALID, value = number_t;
+            if (failed) {
+                t->failed = 1;
+                kind = INVALID, value |= (uint32_t)__builtin_ctzll(failed) << SHEET_AT;
+            }
             break;
         }
         case 6: { /* DECIDE t */
@@ -281,7 +299,7 @@ static inline struct end run(struct state *s, const uint8_t *session, size_t len
     }
     s->accepted = accepted;
     {
-        struct end end = { (uint32_t)length, 0, kind, value, 0 };
+        struct end end = { (uint32_t)length, 0, kind, value, kind == INVALID ? rule_of(s, value) : 0 };
         return end;
     }
 cut:
@@ -323,7 +341,7 @@ size_t plain_report(const uint8_t *session, size_t session_len, uint8_t *report,
         return 0;
     struct state s;
     struct end end = run(&s, session, session_len);
-    if (end.number == 1) {
+    if (end.kind == REFUSED && end.number == 1) {
         memcpy(report, "R 0 1\n", 6);
         return 6;
     }

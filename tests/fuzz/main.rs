@@ -12,7 +12,7 @@
 
 use model::command::{Header, MOST_BYTES};
 use model::demand3::{self, Met};
-use model::engine::{Answer, Phase};
+use model::engine::{Answer, Phase, Verdict};
 use model::generate::{self, Input};
 use model::neighbours::every_pair;
 use model::prng::Prng;
@@ -328,8 +328,8 @@ fn count(session: &[u8], run: &Session, buffer: &[u8], met: Met, counts: &mut Co
     }
     for step in &run.steps {
         match step.answer {
-            Answer::Taken { valid: true, .. } => counts.takes_valid += 1,
-            Answer::Taken { valid: false, .. } => counts.takes_invalid += 1,
+            Answer::Taken { verdict: Verdict::Valid, .. } => counts.takes_valid += 1,
+            Answer::Taken { verdict: Verdict::Invalid(_), .. } => counts.takes_invalid += 1,
             Answer::SecondRun => counts.second_runs += 1,
             _ => {}
         }

@@ -3,7 +3,7 @@
 
 use crate::command::{read_header, Command, MOST_BYTES};
 use crate::demand3;
-use crate::engine::{Answer, Engine, Entry, Lock, Phase};
+use crate::engine::{Answer, Cause, Engine, Entry, Lock, Phase, Rule, Verdict};
 use crate::generate;
 use crate::prng::Prng;
 use crate::report::{report, write_report};
@@ -25,7 +25,7 @@ pub fn fresh(commands: &str) -> Vec<u8> {
     bytes(&format!("01 01 00 {commands}"))
 }
 
-fn printed(session: &[u8]) -> String {
+pub fn printed(session: &[u8]) -> String {
     String::from_utf8(report(&Session::run(session))).expect("figures and letters")
 }
 
@@ -47,12 +47,20 @@ fn w_with(offset: usize, put_in: &str, left_out: usize) -> Vec<u8> {
     session
 }
 
-fn answers(session: &[u8]) -> Vec<Answer> {
+pub fn answers(session: &[u8]) -> Vec<Answer> {
     Session::run(session).steps.iter().map(|step| step.answer).collect()
 }
 
-fn end_of(session: &[u8]) -> Engine {
+pub fn end_of(session: &[u8]) -> Engine {
     Session::run(session).started.expect("a header").1
+}
+
+pub fn valid(save: usize) -> Answer {
+    Answer::Taken { save, verdict: Verdict::Valid }
+}
+
+pub fn invalid(save: usize, sheet: usize, rule: Rule) -> Answer {
+    Answer::Taken { save, verdict: Verdict::Invalid(Cause { sheet, rule }) }
 }
 
 #[test]
@@ -77,8 +85,8 @@ fn the_answers_in_the_worked_session() {
         Accepted,
         Accepted,
         Accepted,
-        Taken { save: 0, valid: true },
-        Taken { save: 1, valid: false },
+        valid(0),
+        invalid(1, 0, Rule::XGranted),
         Committed,
         Accepted,
         SecondRun,
@@ -90,7 +98,7 @@ fn the_answers_in_the_worked_session() {
     assert_eq!(answers(&bytes(W)), expected);
     assert_eq!(Session::run(&bytes(W)[..46]).answer(), (2 << 48) + (7 << 8));
     assert_eq!(Session::run(&bytes(W)[..34]).answer(), 3 << 48);
-    assert_eq!(Session::run(&bytes(W)[..36]).answer(), (4 << 48) + (1 << 8));
+    assert_eq!(Session::run(&bytes(W)[..36]).answer(), (4 << 48) + (1 << 8) + 1);
     assert_eq!(Session::run(&bytes(W)[..38]).answer(), 5 << 48);
     assert_eq!(Session::run(&bytes(W)[..43]).answer(), 6 << 48);
 }
@@ -122,9 +130,9 @@ fn a_shared_request_behind_a_waiting_exclusive_one_fails_and_waits() {
         04 00 04 01 04 02 05 00 05 00 05 00";
     let session = fresh(start);
     let given = answers(&session);
-    assert_eq!(given[10], Answer::Taken { save: 0, valid: true });
-    assert_eq!(given[11], Answer::Taken { save: 1, valid: true });
-    assert_eq!(given[12], Answer::Taken { save: 2, valid: false });
+    assert_eq!(given[10], valid(0));
+    assert_eq!(given[11], valid(1));
+    assert_eq!(given[12], invalid(2, 0, Rule::XWaiting));
     let engine = end_of(&session);
     let entry = |save, lock| Entry { save, lock };
     let queue = [entry(0, Lock::S), entry(1, Lock::X), entry(2, Lock::S)];

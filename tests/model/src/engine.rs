@@ -70,6 +70,46 @@ impl Sheet {
             Lock::X => place == 0,
         }
     }
+
+    /// The first rule by which the sheet fails a save with this copy: an X comes before the counter.
+    fn fails(&self, copy: &Copy) -> Option<Rule> {
+        let is_x = |entry: &Entry| entry.lock == Lock::X;
+        if self.queue.first().is_some_and(is_x) {
+            Some(Rule::XGranted)
+        } else if self.queue.iter().any(is_x) {
+            Some(Rule::XWaiting)
+        } else if copy.wct_seen < self.wct {
+            Some(Rule::CounterBehind)
+        } else {
+            None
+        }
+    }
+}
+
+/// What fails a save at a sheet, in the order in which the rules count there.
+#[derive(Clone, Copy, Debug, PartialEq, Eq, PartialOrd, Ord, Hash)]
+pub enum Rule {
+    XGranted,
+    XWaiting,
+    CounterBehind,
+}
+
+impl Rule {
+    pub const ALL: [Rule; 3] = [Rule::XGranted, Rule::XWaiting, Rule::CounterBehind];
+}
+
+/// Where a save failed, and by which rule.
+#[derive(Clone, Copy, Debug, PartialEq, Eq, PartialOrd, Ord, Hash)]
+pub struct Cause {
+    pub sheet: usize,
+    pub rule: Rule,
+}
+
+/// What one node found of a save; an invalid one has the first cause that the node met.
+#[derive(Clone, Copy, Debug, PartialEq, Eq, Hash)]
+pub enum Verdict {
+    Valid,
+    Invalid(Cause),
 }
 
 #[derive(Clone, Copy, Debug, Default, PartialEq, Eq, Hash)]
@@ -84,7 +124,7 @@ pub struct Tally {
 pub enum Answer {
     Accepted,
     Content(u32),
-    Taken { save: usize, valid: bool },
+    Taken { save: usize, verdict: Verdict },
     Committed,
     SecondRun,
 }
@@ -287,26 +327,21 @@ impl Engine {
     fn take(&mut self, node: usize) -> Answer {
         let save = self.order[self.taken[node]];
         self.taken[node] += 1;
-        let claim = self.saves[save].claim.clone();
-        let mut valid = true;
+        let taken = &mut self.saves[save];
+        let mut verdict = Verdict::Valid;
         // Every claimed sheet gets its entry, also after a failing one: the second run needs it.
-        for (&number, &lock) in &claim {
+        for (&number, &lock) in &taken.claim {
             let sheet = &mut self.sheets[number];
             if sheet.owner != node {
                 continue;
             }
-            if sheet.queue.iter().any(|entry| entry.lock == Lock::X) {
-                valid = false;
-            }
-            if self.saves[save].copies[&number].wct_seen < sheet.wct {
-                valid = false;
+            if let (Verdict::Valid, Some(rule)) = (verdict, sheet.fails(&taken.copies[&number])) {
+                verdict = Verdict::Invalid(Cause { sheet: number, rule });
             }
             sheet.queue.push(Entry { save, lock });
         }
-        if !valid {
-            self.saves[save].failed = true;
-        }
-        Answer::Taken { save, valid }
+        taken.failed |= verdict != Verdict::Valid;
+        Answer::Taken { save, verdict }
     }
 
     fn apply(&mut self, node: usize, save: usize) {

@@ -1,8 +1,8 @@
 //! Neighbouring steps at two nodes: the worked sessions, what the words leave out, and many sessions.
 
-use crate::cases::bytes;
+use crate::cases::{bytes, invalid, valid};
 use crate::command::{Command, Header, MOST_BYTES};
-use crate::engine::{Answer, Engine};
+use crate::engine::{Answer, Engine, Rule};
 use crate::generate;
 use crate::neighbours::{check, check_pair, every_pair, Kind};
 use crate::prng::Prng;
@@ -60,7 +60,7 @@ fn the_last_answer_may_change() {
     let last = |end: &str| Session::run(&bytes(&format!("{TAKES} 05 00 05 01 {end}"))).answer();
     // Node 0 finds save 1 invalid, since it has an X of save 0; node 1 does not.
     assert_eq!(last("05 00 05 01"), (3 << 48) + (1 << 8));
-    assert_eq!(last("05 01 05 00"), (4 << 48) + (1 << 8));
+    assert_eq!(last("05 01 05 00"), (4 << 48) + (1 << 8) + 1);
     assert_eq!(
         printed(TAKES, "05 00 05 01 05 00 05 01"),
         printed(TAKES, "05 00 05 01 05 01 05 00")
@@ -89,8 +89,8 @@ fn single_steps_of_each_kind() {
         let pair = check_pair(&header, &engine, steps).expect("neighbours");
         (pair.kind(), pair.answers)
     };
-    let invalid = Ok(Answer::Taken { save: 1, valid: false });
-    let valid = Ok(Answer::Taken { save: 1, valid: true });
+    let invalid = Ok(invalid(1, 0, Rule::XGranted));
+    let valid = Ok(valid(1));
     let [here, there] = [Take { node: 0 }, Take { node: 1 }];
     assert_eq!(tried([here, there]), (Kind::BothAccepted, [invalid, valid]));
     assert_eq!(tried([there, here]), (Kind::BothAccepted, [valid, invalid]));

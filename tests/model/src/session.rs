@@ -1,7 +1,7 @@
 //! A whole session: it runs to its end or to its first refusal.
 
 use crate::command::{read_command, read_header, Command, Header};
-use crate::engine::{Answer, Engine, Phase};
+use crate::engine::{Answer, Cause, Engine, Phase, Rule, Verdict};
 
 /// A command's byte with the phase of its save when it came: a cell of the exam desk's table.
 pub type Cell = (u8, Phase);
@@ -98,14 +98,26 @@ impl Session {
     }
 }
 
+/// The answer of an accepted command. A save found invalid has the sheet of its cause before it in the
+/// value, as sheet * 2^16 + save, and the rule as the number.
 pub fn coded_answer(answer: Answer) -> u64 {
     match answer {
         Answer::Accepted => coded(1, 0, 0),
         Answer::Content(content) => coded(2, content as u64, 0),
-        Answer::Taken { save, valid: true } => coded(3, save as u64, 0),
-        Answer::Taken { save, valid: false } => coded(4, save as u64, 0),
+        Answer::Taken { save, verdict: Verdict::Valid } => coded(3, save as u64, 0),
+        Answer::Taken { save, verdict: Verdict::Invalid(Cause { sheet, rule }) } => {
+            coded(4, ((sheet as u64) << 16) + save as u64, rule_number(rule))
+        }
         Answer::Committed => coded(5, 0, 0),
         Answer::SecondRun => coded(6, 0, 0),
+    }
+}
+
+fn rule_number(rule: Rule) -> u8 {
+    match rule {
+        Rule::XGranted => 1,
+        Rule::XWaiting => 2,
+        Rule::CounterBehind => 3,
     }
 }
 
