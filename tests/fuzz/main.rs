@@ -1,5 +1,6 @@
 //! Compares the engine, linked as a static library, with the model on seeded sessions, each with a
-//! list of steps to be written and with neighbouring steps swapped, and checks demand 3 on each.
+//! list of steps to be written and with neighbouring steps swapped, and checks demand 3 and the causes
+//! of TAKE's answers on each.
 //!
 //! `fuzz --sessions N --seed S [--prefixes] [--lengths] [--states]`
 //!
@@ -7,22 +8,23 @@
 //! `--lengths` adds every length from 0 to 16,386 bytes; `--states` adds every command in every
 //! state that small sessions reach. The end status is 1 on a difference, on a
 //! broken demand, and where a run of 1,000 sessions or more has left out a refusal, or one of
-//! 20,000 or more a command in some phase of its save, an outcome of a writing or a reading, or a
-//! kind of neighbours.
+//! 20,000 or more a command in some phase of its save, an outcome of a writing or a reading, a kind
+//! of neighbours or a kind of causes.
 
-use model::command::{Header, MOST_BYTES};
+use model::command::{Command, Header, MOST_BYTES};
 use model::demand3::{self, Met};
 use model::engine::{Answer, Phase, Verdict};
 use model::generate::{self, Input};
 use model::neighbours::every_pair;
 use model::prng::Prng;
 use model::report::{write_report, LEAST_BUFFER};
-use model::session::{coded_answer, Cell, Session};
+use model::session::{coded_answer, Cell, Session, Step};
 use model::states;
 use std::collections::BTreeMap;
 use std::process::exit;
 use writing::Tally;
 
+mod causes;
 mod engine;
 mod neighbours;
 mod writing;
@@ -38,8 +40,8 @@ const SAMPLE: usize = 40;
 const CELLS: usize = 7 * Phase::ALL.len();
 
 /// From so many sessions on, a refusal or a kind of commit that never occurred is a failure; from so
-/// many, a command that never came in some phase of its save, an outcome of a writing or reading, or
-/// a kind of neighbours.
+/// many, a command that never came in some phase of its save, an outcome of a writing or reading, a
+/// kind of neighbours or a kind of causes.
 const ALL_REFUSALS: u64 = 1_000;
 const ALL_CELLS: u64 = 20_000;
 
@@ -60,6 +62,7 @@ struct Counts {
     all_saves: u64,
     longest_queue: usize,
     met: Met,
+    causes: causes::Counts,
     neighbours: neighbours::Counts,
     writing: writing::Counts,
 }
@@ -136,6 +139,7 @@ fn one_session(seed: u64, prefixes: bool, counts: &mut Counts) -> Result<(), Str
     let Input { session, buffer } = generate::input(&mut prng);
     let (run, met) = demand3::check(&session, &mut prng)
         .map_err(|trouble| format!("demand 3 in the model: {trouble}\n{}", shown(&session)))?;
+    causes::one_session(&session, &run, &mut counts.causes)?;
     let mut compared = compare(&session, &run, &buffer, &mut prng);
     if compared.is_ok() && (prefixes || prng.one_in(4)) {
         compared =
@@ -186,6 +190,10 @@ fn every_state(header: &Header, saves: usize) -> Result<(), String> {
                 format!("demand 3 in the model: {trouble}\n{}", shown(session))
             })?;
             pairs_tried += neighbours::in_state(session, &run, &pairs)?;
+        }
+        let last = run.steps.last().filter(|_| run.refused.is_none());
+        if matches!(last, Some(Step { command: Command::Take { .. }, .. })) {
+            causes::one_session(session, &run, &mut Default::default())?;
         }
         compare(session, &run, &buffer, &mut prng)
     })?;
@@ -348,6 +356,7 @@ fn count(session: &[u8], run: &Session, buffer: &[u8], met: Met, counts: &mut Co
 
 /// Prints the counts; says whether something never occurred that so many sessions have.
 fn close(counts: &Counts) -> bool {
+    let cause_left_out = counts.causes.close();
     let neighbours_left_out = counts.neighbours.close();
     let outcome_left_out = counts.writing.close();
     println!(
@@ -384,7 +393,7 @@ fn close(counts: &Counts) -> bool {
     let refusal_left_out = counts.refusals[1..].contains(&0);
     let commit_left_out = counts.first_commits == 0 || counts.second_commits == 0;
     let cell_left_out = counts.cells.len() < CELLS;
-    let kind_left_out = cell_left_out || outcome_left_out || neighbours_left_out;
+    let kind_left_out = cell_left_out || outcome_left_out || neighbours_left_out || cause_left_out;
     counts.sessions >= ALL_REFUSALS && (refusal_left_out || commit_left_out)
         || counts.sessions >= ALL_CELLS && kind_left_out
 }

@@ -4,6 +4,7 @@
 //! and every rule of the paper stands in one place. The engine is compared with it, so it shares
 //! no code with the engine.
 
+pub mod causes;
 pub mod command;
 pub mod demand3;
 pub mod engine;
@@ -19,6 +20,8 @@ pub mod writing;
 
 #[cfg(test)]
 mod cases;
+#[cfg(test)]
+mod causes_cases;
 #[cfg(test)]
 mod neighbours_cases;
 #[cfg(test)]
