@@ -14,9 +14,9 @@ use Rattle.rules.specs.Bytes.{Take}
 use Rattle.rules.specs.Table.{upd, any}
 use Rattle.rules.specs.State.{claims}
 use Rattle.rules.specs.Steps as rules
-use Rattle.rules.specs.Steps.{fails-at, finds-invalid, cause-at, first-cause}
+use Rattle.rules.specs.Steps.{finds-invalid, cause-at, first-cause}
 use Rattle.rules.proofs.Table.{bool, same?, below?, and-i, clash, any-intro, first-none}
-use Rattle.rules.proofs.Causes.{passing, found-valid, found-invalid}
+use Rattle.rules.proofs.Causes.{found-valid, found-invalid}
 use Rattle.rules.proofs.Places.{at, by}
 use Rattle.state.specs.declared.Cause.{Cause}
 use Rattle.state.specs.declared.Verdict.{Verdict}
@@ -27,7 +27,7 @@ use Rattle.state.specs.View.{set?, claim-in, entered, queue-in, nodes, placed, 
 use Rattle.state.specs.Changes.{moving-on}
 use Rattle.state.specs.Ready.{Whole, Ready, Trimmed}
 use Rattle.state.specs.Lent.{Steps}
-use Rattle.state.proofs.Tables.{upd-by, any-fails}
+use Rattle.state.proofs.Tables.{upd-by}
 use Rattle.state.proofs.Parts.{whole-store}
 use Rattle.state.proofs.Stores.{view-set, flat-past}
 use Rattle.state.proofs.Behind.{behind-moved, behind-taken}
@@ -137,13 +137,11 @@ module _ {m : ℕ} {d : Parts} (ready : Ready m d) (n : ℕ) (ln : n < nodes d) 
         → (value seen w : List ℕ) → Steps (view m d value seen w) (Take n) (view m (moving-on d n) value seen w) (Took t Valid)
     take-none none value seen w =
         let empty = here m (d OWNER) (d CLAIM) n t none in
-        let passes : (k : ℕ) → k < m → (eqb (getD (d OWNER) k 0) n && fails-at (view m d [] seen w no-tally) t k) ≡ false =
-        λ k l. same? (getD (d OWNER) k 0) n
-        (λ o. bool (claims (claim-in m (d CLAIM) t k)) (λ e. absurd (empty k o e)) (λ e. rw e (and-false (eqb (getD (d OWNER) k 0) n))))
-        (λ z. rw (ne-eqb (getD (d OWNER) k 0) n z)) in
-        take-steps (d STANDING) (λ j z. refl) (λ k o e. absurd (empty k o e)) value seen w (d FAILED) Valid
-        (rw (first-none m (cause-at (view m d [] seen w no-tally) n t) (λ k l. passing (view m d [] seen w no-tally) n t k (passes k l))))
-        (rw (any-fails m (λ k. eqb (getD (d OWNER) k 0) n && fails-at (view m d [] seen w no-tally) t k) passes) (failed-keep (d FAILED) t))
+        let s = view m d [] seen w no-tally in
+        let e : rules.valid ≡ rules.verdict (first-cause s n t) = rw (first-none m (cause-at s n t) (λ k l. same? (getD (d OWNER) k 0) n
+        (λ o. bool (claims (claim-in m (d CLAIM) t k)) (λ c. absurd (empty k o c)) (λ c. rw (c, and-false (eqb (getD (d OWNER) k 0) n))))
+        (λ z. rw (ne-eqb (getD (d OWNER) k 0) n z)))) in
+        take-steps (d STANDING) (λ j z. refl) (λ k o c. absurd (empty k o c)) value seen w (d FAILED) Valid e (rw (found-valid s n t e) (failed-keep (d FAILED) t))
 
     abbrev standing′ : List ℕ
     standing′ = set (d STANDING) (n * 32 + t) 1

@@ -11,7 +11,7 @@ use Rattle.rules.specs.Bytes.{Take}
 use Rattle.rules.specs.State.{State, claims}
 use Rattle.rules.specs.Steps.{holds, at-front, x-on, owns, next, fails-at, finds-invalid, Rule, x-granted, x-waiting, counter-behind, Cause, rule-met, cause-by, cause-at, first-cause, Verdict, valid, invalid, verdict, took, Checked, pass, refuse, check, answered, step-by, step}
 use Rattle.rules.specs.Causes.{Says, FirstCause, Explains, WhyFailed}
-use Rattle.rules.proofs.Table.{bool, clash, below?, and-l, and-r, any-intro, any-not, first-none, first-at, first-cases}
+use Rattle.rules.proofs.Table.{bool, clash, below?, and-l, and-r, any-intro, any-fails, first-none, first-at, first-cases}
 
 -- ---- The tests at one sheet
 
@@ -108,7 +108,7 @@ module _ (s : State) (n t : ℕ) where
   explain : Explains s n t (verdict (first-cause s n t))
   explain =
       first-cases M (cause-at s n t)
-      (λ h. rw (first-none M (cause-at s n t) h) (any-not M fails (λ k l. passes k (h k l))))
+      (λ h. rw (first-none M (cause-at s n t) h) (any-fails M fails (λ k l. passes k (h k l))))
       (λ k a l e h. rw (first-at M (cause-at s n t) k a l e h) (is-first k a l e h))
 
   pub found-valid : valid ≡ verdict (first-cause s n t) → finds-invalid s n t ≡ false

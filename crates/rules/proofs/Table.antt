@@ -121,8 +121,8 @@ any-intro (suc n) f i h e = same? i n (λ q. rw (← q, e)) (λ q. rw (any-intro
 pub any-none : (n : ℕ) (f : ℕ → Bool) → any n f ≡ false → (i : ℕ) → i < n → f i ≡ false
 any-none n f e i h = bool (f i) (λ q. clash (any n f) (any-intro n f i h q) e) (λ q. q)
 
-pub any-not : (n : ℕ) (f : ℕ → Bool) → ((i : ℕ) → i < n → f i ≡ false) → any n f ≡ false
-any-not n f h = bool (any n f) (λ e. any-at n f e (λ i l q. clash (f i) q (h i l))) (λ e. e)
+pub any-fails : (n : ℕ) (f : ℕ → Bool) → ((i : ℕ) → i < n → f i ≡ false) → any n f ≡ false
+any-fails n f h = bool (any n f) (λ e. any-at n f e (λ i l q. clash (f i) q (h i l))) (λ e. e)
 
 -- ---- the first of the numbers below a bound
 module _ {A : Type 0} where

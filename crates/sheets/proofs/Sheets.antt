@@ -12,13 +12,13 @@ use borrow.Author.Tests.{eq-eqb, ne-eqb}
 use Rattle.rules.specs.State.{claims}
 use Rattle.rules.specs.Steps.{mem, holds, x-on, fails-at, x-granted, x-waiting, counter-behind, rule-met, has-entry}
 use Rattle.rules.proofs.Places.{at}
-use Rattle.rules.proofs.Table.{same?}
+use Rattle.rules.proofs.Table.{same?, any-fails}
 use Rattle.state.specs.Parts.{Parts, WCT, CLAIM, STANDING, OWNER, ORDER, PLACE, TAKEN}
 use Rattle.state.specs.View.{set?, claim-in, entered, queue-in, view, no-tally}
 use Rattle.state.specs.Ready.{Ready}
 use Rattle.state.proofs.Codes.{claims-code}
 use Rattle.state.proofs.Stores.{flat-in}
-use Rattle.state.proofs.Tables.{any-cong, any-fails}
+use Rattle.state.proofs.Tables.{any-cong}
 use Rattle.queues.proofs.Walk.{entries-mem}
 use Rattle.sheets.specs.Tests.{taken-at, claims-at, stands-at}
 
