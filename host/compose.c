@@ -261,8 +261,8 @@ static uint64_t write_session(const struct session *s, uint8_t *room, size_t byt
 
 static _Noreturn void refused(const struct session *s, uint64_t answer)
 {
-    unsigned number = number_of(answer);
-    uint64_t step = value_of(answer);
+    unsigned number = CUSPHEWA_NUMBER(answer);
+    uint64_t step = CUSPHEWA_VALUE(answer);
     if (number == CUSPHEWA_BAD_SESSION && step == 0)
         fail("lines %zu and %zu: refused 1: the header is out of range", s->nodes_line, s->owners_line);
     if (number == CUSPHEWA_BAD_SESSION)
@@ -277,12 +277,12 @@ static void print_session(const struct session *s)
     /* lent no room, the writer says how much it needs */
     uint8_t none = 0;
     uint64_t answer = write_session(s, &none, 0);
-    if (number_of(answer) != CUSPHEWA_NO_ROOM)
+    if (CUSPHEWA_NUMBER(answer) != CUSPHEWA_NO_ROOM)
         refused(s, answer);
-    size_t bytes = (size_t)value_of(answer), room = 0;
+    size_t bytes = (size_t)CUSPHEWA_VALUE(answer), room = 0;
     uint8_t *session = with_room(NULL, &room, bytes, 1);
     answer = write_session(s, session, room);
-    if (kind_of(answer) != CUSPHEWA_WRITTEN)
+    if (CUSPHEWA_KIND(answer) != CUSPHEWA_WRITTEN)
         refused(s, answer);
     fwrite(session, 1, bytes, stdout);
     free(session);

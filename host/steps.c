@@ -39,12 +39,12 @@ int main(int argc, char **argv)
     size_t bytes = fread(session, 1, sizeof session, in.file);
     check_input(&in);
     uint64_t answer = cusphewa_read(session, bytes, steps, sizeof steps / sizeof *steps);
-    if (kind_of(answer) != CUSPHEWA_LISTED)
-        fail("refused at %" PRIu64 " with %u: %s", value_of(answer), number_of(answer), reason(number_of(answer)));
-    const uint32_t *end = steps + CUSPHEWA_STEP_WORDS * (value_of(answer) & 0xffff);
+    if (CUSPHEWA_KIND(answer) != CUSPHEWA_LISTED)
+        fail("refused at %" PRIu64 " with %u: %s", CUSPHEWA_VALUE(answer), CUSPHEWA_NUMBER(answer), reason(CUSPHEWA_NUMBER(answer)));
+    const uint32_t *end = steps + CUSPHEWA_STEP_WORDS * (CUSPHEWA_VALUE(answer) & 0xffff);
     for (const uint32_t *step = steps; step < end; step += CUSPHEWA_STEP_WORDS)
         command_of(step); /* fails before anything is printed */
-    print_header(session, bytes, (unsigned)(value_of(answer) >> 32));
+    print_header(session, bytes, (unsigned)(CUSPHEWA_VALUE(answer) >> 32));
     for (const uint32_t *step = steps; step < end; step += CUSPHEWA_STEP_WORDS)
         print_step(step);
     close_output();

@@ -13,21 +13,6 @@ size_t operand_count(const struct command *command)
     return n;
 }
 
-unsigned kind_of(uint64_t answer)
-{
-    return (unsigned)(answer >> 48);
-}
-
-uint64_t value_of(uint64_t answer)
-{
-    return answer >> 8 & 0xffffffffff;
-}
-
-unsigned number_of(uint64_t answer)
-{
-    return (unsigned)(answer & 0xff);
-}
-
 const char *reason(unsigned refusal)
 {
     switch (refusal) {

@@ -31,11 +31,6 @@ static const struct command commands[] = {
 
 size_t operand_count(const struct command *command);
 
-/* An answer's parts. */
-unsigned kind_of(uint64_t answer);
-uint64_t value_of(uint64_t answer);
-unsigned number_of(uint64_t answer);
-
 /* Why reading or writing is refused. */
 const char *reason(unsigned refusal);
 
