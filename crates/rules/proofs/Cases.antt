@@ -1,6 +1,7 @@
 -- Every case of the table, by one computation over the definitions.
 use mathlib.Core.Path.{_≡_, refl}
 use mathlib.Core.List.{List, map, _++_}
+use mathlib.Core.Option.{orElse}
 use Prim.Native.Nat.{ℕ}
 use Rattle.rules.specs.Table.{upd, upd2, row, all, any, first-below}
 use Rattle.rules.specs.Bytes.{read-from}
@@ -25,5 +26,5 @@ abbrev table : List Case
 table = starred ++ refusals ++ others ++ neighbours ++ causes
 
 pub cases : map computed table ≡ map stated table
-unfolding upd upd2 row all any first-below read-from fresh x-on run stop reply part figures decimal field rows place-line place-lines sheet-line sheet-lines tally-line refusal-line stop-line state-lines report
+unfolding upd upd2 row all any orElse first-below read-from fresh x-on run stop reply part figures decimal field rows place-line place-lines sheet-line sheet-lines tally-line refusal-line stop-line state-lines report
 cases = refl

@@ -3,13 +3,13 @@ use Prim.Native.Nat.{ℕ, _<_}
 use mathlib.Core.Path.{_≡_, refl, sym, ap, subst, _∙_}
 use mathlib.Core.Bool.{Bool, true, false, _&&_, _||_, cond, or-true}
 use mathlib.Core.List.{List, [], _∷_}
-use mathlib.Core.Option.{none, some, Option·none-ne-some}
+use mathlib.Core.Option.{none, some, Option·map, Option·none-ne-some}
 use native.Mathlib.Omega.{arith}
 use lib.Dec.{ltb}
 use borrow.Author.Tests.{lt-ltb, ltb-true}
 use Rattle.rules.specs.Bytes.{Take}
 use Rattle.rules.specs.State.{State, claims}
-use Rattle.rules.specs.Steps.{holds, at-front, x-on, owns, next, fails-at, finds-invalid, Rule, x-granted, x-waiting, counter-behind, Cause, rule-met, cause-by, cause-at, first-cause, Verdict, valid, invalid, verdict, took, Checked, pass, refuse, check, answered, step-by, step}
+use Rattle.rules.specs.Steps.{holds, at-front, x-on, owns, next, fails-at, finds-invalid, Rule, x-granted, x-waiting, counter-behind, Cause, rule-met, cause, cause-at, first-cause, Verdict, valid, invalid, verdict, took, Checked, pass, refuse, check, answered, step-by, step}
 use Rattle.rules.specs.Causes.{Says, FirstCause, Explains, WhyFailed}
 use Rattle.rules.proofs.Table.{bool, clash, below?, and-l, and-r, any-intro, any-fails, first-none, first-at, first-cases}
 
@@ -21,7 +21,7 @@ front-held x [] e = e
 front-held x (u ∷ q) e = rw e
 
 -- a sheet that passes has no cause
-pub no-cause : (k : ℕ) (o c f h b : Bool) → (f ≡ true → h ≡ true) → o && (c && (h || b)) ≡ false → cond (o && c) (cause-by k (rule-met f h b)) none ≡ none
+pub no-cause : (k : ℕ) (o c f h b : Bool) → (f ≡ true → h ≡ true) → o && (c && (h || b)) ≡ false → cond (o && c) (Option·map (cause k) (rule-met f h b)) none ≡ none
 no-cause k true true true h b w e = clash (h || b) (rw (w refl)) e
 no-cause k true true false true b w e = clash true refl e
 no-cause k true true false false true w e = clash true refl e
@@ -54,7 +54,7 @@ module _ (s : State) (n t : ℕ) where
   passing k e = no-cause k (owns s n k) (claims (s .claim t k)) (front k) (held k) (late k) (front-held (x-on (s .claim) k) (s .queue k)) e
 
   -- the cause at a sheet that fails, by its front entry and its queue alone
-  pub failing : (k : ℕ) (r : Rule) → fails k ≡ true → rule-met (front k) (held k) true ≡ some r → cause-at s n t k ≡ some (record { sheet = k; rule = r })
+  pub failing : (k : ℕ) (r : Rule) → fails k ≡ true → rule-met (front k) (held k) true ≡ some r → cause-at s n t k ≡ some (cause k r)
   failing k r e q =
       let o = and-l (owns s n k) (fails-at s t k) e in
       let f = and-r (owns s n k) (fails-at s t k) e in
@@ -64,7 +64,7 @@ module _ (s : State) (n t : ℕ) where
 
   -- a sheet passes, or it fails and the rule's words hold there
   by-cause : {P : Type 0} (k : ℕ) → (fails k ≡ false → P)
-      → ((r : Rule) → cause-at s n t k ≡ some (record { sheet = k; rule = r }) → owns s n k ≡ true → claims (s .claim t k) ≡ true → fails k ≡ true → Says s t k r → P) → P
+      → ((r : Rule) → cause-at s n t k ≡ some (cause k r) → owns s n k ≡ true → claims (s .claim t k) ≡ true → fails k ≡ true → Says s t k r → P) → P
   by-cause {P} k x y =
       bool (fails k)
       (λ e. let o = and-l (owns s n k) (fails-at s t k) e in
@@ -93,7 +93,7 @@ module _ (s : State) (n t : ℕ) where
       by-cause k
       (λ f. absurd (Option·none-ne-some a (sym (passing k f) ∙ e)))
       (λ r q o c f w.
-      let z : a ≡ record { sheet = k; rule = r } = cc in
+      let z : a ≡ cause k r = cc in
       rw z (
         any-intro M fails k l f,
         record {
@@ -145,7 +145,7 @@ module _ (s : State) (n t : ℕ) where
       (λ l. below? (b .sheet) (a .sheet) (λ i. absurd (not-lower b a y x i))
       (λ i. let e : a .sheet ≡ b .sheet = omega arith in
       let r : a .rule ≡ b .rule = one-rule (b .sheet) (a .rule) (b .rule) (rw e at (x .rule)) (y .rule) in
-      λ j. record { sheet = e j; rule = r j }))
+      λ j. cause (e j) (r j)))
 
   one-verdict : (v u : Verdict) → Explains s n t v → Explains s n t u → v ≡ u
   one-verdict valid valid x y = refl

@@ -3,7 +3,7 @@ use Prim.Native.Nat.{ℕ, zero, suc, _+_, _*_, _≤_, _<_}
 use mathlib.Core.Path.{_≡_, refl, sym, _∙_}
 use mathlib.Core.Bool.{Bool, true, false, _&&_, cond, true≢false, or-true}
 use mathlib.Core.Logic.{_≢_}
-use mathlib.Core.Option.{Option, none, some}
+use mathlib.Core.Option.{Option, none, some, orElse}
 use native.Mathlib.Omega.{arith}
 use native.Mathlib.Nat.{not-suc-le-zero, le-refl}
 use lib.Dec.{ltb, eqb}
@@ -127,12 +127,12 @@ any-fails n f h = bool (any n f) (λ e. any-at n f e (λ i l q. clash (f i) q (h
 -- ---- the first of the numbers below a bound
 module _ {A : Type 0} where
   pub first-none : (n : ℕ) (f : ℕ → Option A) → ((i : ℕ) → i < n → f i ≡ none) → first-below n f ≡ none
-  unfolding first-below
+  unfolding first-below orElse
   first-none zero f h = refl
   first-none (suc n) f h = rw (first-none n f (λ i l. h i (omega arith))) (h n (le-refl (suc n)))
 
   pub first-at : (n : ℕ) (f : ℕ → Option A) (i : ℕ) (a : A) → i < n → f i ≡ some a → ((j : ℕ) → j < i → f j ≡ none) → first-below n f ≡ some a
-  unfolding first-below
+  unfolding first-below orElse
   first-at zero f i a l e h = absurd (not-suc-le-zero l)
   first-at (suc n) f i a l e h = same? i n
       (λ q. rw (first-none n f (λ j o. h j (omega arith))) (rw q at e))

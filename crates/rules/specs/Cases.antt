@@ -5,7 +5,7 @@ use Prim.Native.String.{String, [] as end, _∷_ as _then_, _++_}
 use mathlib.Core.Bool.{cond}
 use mathlib.Core.List.{List, [], _∷_}
 use lib.Dec.{eqb, ltb}
-use Rattle.rules.specs.Steps.{x-granted, x-waiting, counter-behind, Rule, valid, invalid, accepted, content-is, took, commits, second-run}
+use Rattle.rules.specs.Steps.{x-granted, x-waiting, counter-behind, Rule, cause, valid, invalid, accepted, content-is, took, commits, second-run}
 use Rattle.rules.specs.Calls.{Reply, no-command, answers, refusal}
 
 -- ---- Texts as bytes
@@ -43,7 +43,7 @@ case s a p l = record { session = s; answer = a; shown = p; lines = l }
 
 -- a TAKE that finds save t invalid at sheet k
 abbrev fails : ℕ → ℕ → Rule → Reply
-fails t k r = answers (took t (invalid (record { sheet = k; rule = r })))
+fails t k r = answers (took t (invalid (cause k r)))
 
 -- the fresh session
 abbrev fresh : String

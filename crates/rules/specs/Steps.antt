@@ -2,7 +2,7 @@
 use Prim.Native.Nat.{ℕ, suc}
 use mathlib.Core.Bool.{Bool, true, false, not, _&&_, _||_, cond}
 use mathlib.Core.List.{List, [], _∷_, _++_}
-use mathlib.Core.Option.{Option, none, some}
+use mathlib.Core.Option.{Option, none, some, Option·map}
 use lib.ListN.{length, getD}
 use lib.Dec.{eqb, ltb}
 use Rattle.rules.specs.Table.{upd, upd2, row, all, any, first-below}
@@ -294,6 +294,9 @@ pub record Cause : Type 0 where
   pub sheet : ℕ
   pub rule : Rule
 
+abbrev pub cause : ℕ → Rule → Cause
+cause k r = record { sheet = k; rule = r }
+
 -- "on one sheet the X comes before the counter: X granted where the queue's front entry is an X, else X waiting where it holds one"
 abbrev pub rule-met : (x-in-front x-in-queue behind : Bool) → Option Rule
 rule-met true x b = some x-granted
@@ -301,15 +304,11 @@ rule-met false true b = some x-waiting
 rule-met false false true = some counter-behind
 rule-met false false false = none
 
-abbrev pub cause-by : ℕ → Option Rule → Option Cause
-cause-by k none = none
-cause-by k (some r) = some (record { sheet = k; rule = r })
-
 -- what node n meets at sheet k, if it owns the sheet and save t claims it
 abbrev pub cause-at : State → (n t k : ℕ) → Option Cause
 cause-at s n t k =
     cond (owns s n k && claims (s .claim t k))
-    (cause-by k (rule-met (at-front (x-on (s .claim) k) (s .queue k)) (holds (x-on (s .claim) k) (s .queue k)) (ltb (s .copy t k .wct) (s .sheet k .wct))))
+    (Option·map (cause k) (rule-met (at-front (x-on (s .claim) k) (s .queue k)) (holds (x-on (s .claim) k) (s .queue k)) (ltb (s .copy t k .wct) (s .sheet k .wct))))
     none
 
 -- "the first cause it met": "sheets count in rising number"

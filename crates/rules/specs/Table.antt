@@ -1,7 +1,7 @@
 -- Tables as functions of one or two numbers, a change of one place or one row, and tests over the numbers below a bound.
 use Prim.Native.Nat.{ℕ, zero, suc}
 use mathlib.Core.Bool.{Bool, true, false, _&&_, _||_, cond}
-use mathlib.Core.Option.{Option, none, some}
+use mathlib.Core.Option.{Option, none, orElse}
 use lib.Dec.{eqb}
 
 module _ {A : Type 0} where
@@ -27,12 +27,7 @@ unfoldable pub any : ℕ → (ℕ → Bool) → Bool
 any zero f = false
 any (suc n) f = f n || any n f
 
-module _ {A : Type 0} where
-  abbrev pub or-else : Option A → Option A → Option A
-  or-else (some a) y = some a
-  or-else none y = y
-
-  -- the numbers below n in rising order: the first thing that f gives
-  unfoldable pub first-below : ℕ → (ℕ → Option A) → Option A
-  first-below zero f = none
-  first-below (suc n) f = or-else (first-below n f) (f n)
+-- the numbers below n in rising order: the first thing that f gives
+unfoldable pub first-below : {A : Type 0} → ℕ → (ℕ → Option A) → Option A
+first-below zero f = none
+first-below (suc n) f = orElse (first-below n f) (f n)

@@ -7,7 +7,7 @@ use mathlib.Core.Option.{some}
 use native.Mathlib.Omega.{arith}
 use native.Mathlib.Nat.{not-suc-le-zero}
 use lib.ListN.{getD}
-use Rattle.rules.specs.Steps.{owns, fails-at, Rule, valid, invalid, verdict, cause-at, first-cause}
+use Rattle.rules.specs.Steps.{owns, fails-at, Rule, valid, invalid, verdict, cause, cause-at, first-cause}
 use Rattle.rules.proofs.Table.{same?, below?, first-none, first-at}
 use Rattle.rules.proofs.Causes.{passing, failing}
 use Rattle.state.specs.Parts.{Parts, CLAIM, LISTED, MANY}
@@ -75,9 +75,9 @@ module _ {m : ℕ} {d h : Parts} {seen w : List ℕ} {n t i : ℕ} (p : Passed m
 
       -- the sheet fails: it is the first, and this is its rule
       pub passed-found : {f : Bool} → f ≡ fails m d seen w n t k → f ≡ true → {r : Rule} → some r ≡ rule-at (view m d [] seen w no-tally) k
-          → invalid (record { sheet = k; rule = r }) ≡ verdict (first-cause (view m d [] seen w no-tally) n t)
+          → invalid (cause k r) ≡ verdict (first-cause (view m d [] seen w no-tally) n t)
       passed-found ef y {r} er =
           let s = view m d [] seen w no-tally in
-          rw (first-at m (cause-at s n t) k (record { sheet = k; rule = r }) passed-sheet
+          rw (first-at m (cause-at s n t) k (cause k r) passed-sheet
           (failing s n t k r (sym ef ∙ y) (sym er))
           (λ j o. passing s n t j (lower j o)))

@@ -104,7 +104,7 @@ rule-of CounterBehind = rules.counter-behind
 
 -- "sheet and rule"
 abbrev pub cause-of : Cause → rules.Cause
-cause-of c = record { sheet = c .sheet; rule = rule-of (c .rule) }
+cause-of c = rules.cause (c .sheet) (rule-of (c .rule))
 
 -- valid, or invalid with the first cause
 abbrev pub verdict-of : Verdict → rules.Verdict
