@@ -45,7 +45,7 @@ uint64_t cusphewa_answer(const uint8_t *session, size_t session_len);
 /* The rules. On one sheet the X comes before the counter. */
 enum {
     CUSPHEWA_X_GRANTED = 1,     /* the front entry of the sheet's queue is an X */
-    CUSPHEWA_X_WAITING = 2,     /* the queue holds an X, and its front entry is none */
+    CUSPHEWA_X_WAITING = 2,     /* the queue holds an X, but not at its front */
     CUSPHEWA_COUNTER_BEHIND = 3 /* the queue holds no X, and the copy's write counter is below the sheet's */
 };
 

@@ -169,6 +169,10 @@ pair = fresh ++ "01 00  01 01  02 00 00  02 01 00  03 00 00 00 00 00 01  04 00  
 abbrev overtaken : String
 overtaken = fresh ++ "01 00  01 01  01 02  02 00 00  02 01 00  02 02 00  03 00 00 00 00 00 01  03 01 00 00 00 00 02  04 00  05 00  06 00  07 00 00  04 01  04 02  "
 
+-- saves 0 and 3 read the sheet, 0 writes it and is carried out; then 1 reads the sheet, 2 reads and writes it, and 1, 2 and 3 are submitted
+abbrev queued-up : String
+queued-up = fresh ++ "01 00  01 01  01 02  01 03  02 00 00  02 03 00  03 00 00 00 00 00 01  04 00  05 00  06 00  07 00 00  02 01 00  02 02 00  03 02 00 00 00 00 02  04 01  04 02  04 03  "
+
 -- one node with sheets 0 and 1; save 0 writes 0, save 1 writes 1, save 2 reads both; 0 is carried out, then 1 and 2 are submitted
 abbrev two-sheets : String
 two-sheets = "01 02 00 00  01 00  01 01  01 02  02 00 00  03 00 00 00 00 00 01  02 01 01  03 01 01 00 00 00 02  02 02 00  02 02 01  04 00  05 00  06 00  07 00 00  04 01  04 02  "
@@ -179,6 +183,8 @@ causes =
     case (pair ++ "05 00  06 00  07 00 00  05 00") (fails 1 0 counter-behind) "" "P 0 1 C\nP 1 1 U\nO 0 1 1\nT 11 1 0\n"
     -- two causes on one sheet: save 1's X is granted, and the counter is behind
     ∷ case (overtaken ++ "05 00  05 00") (fails 2 0 x-granted) "" "P 0 1 C\nP 1 1 U\nP 2 1 U\nO 0 1 1\nT 16 1 0\n"
+    -- save 2's X waits behind save 1's S, and the counter is behind
+    ∷ case (queued-up ++ "05 00  05 00  05 00") (fails 3 0 x-waiting) "" "P 0 1 C\nP 1 1 U\nP 2 1 U\nP 3 1 U\nO 0 1 1\nT 20 1 0\n"
     -- on two sheets: the counter is behind at sheet 0, and save 1's X is granted at sheet 1
     ∷ case (two-sheets ++ "05 00  05 00") (fails 2 0 counter-behind) "" "P 0 1 C\nP 1 1 U\nP 2 1 U\nO 0 1 1\nO 1 0 0\nT 17 1 0\n"
     -- sheet 0 passes; at sheet 1 save 0's X waits behind save 1's S

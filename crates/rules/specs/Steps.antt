@@ -297,7 +297,8 @@ pub record Cause : Type 0 where
 abbrev pub cause : ℕ → Rule → Cause
 cause k r = record { sheet = k; rule = r }
 
--- "on one sheet the X comes before the counter: X granted where the queue's front entry is an X, else X waiting where it holds one"
+-- "on one sheet the X comes before the counter: X granted where the queue's front entry is an X, else X waiting where it holds one"; else
+-- counter behind where the copy's WCT is below the sheet's
 abbrev pub rule-met : (x-in-front x-in-queue behind : Bool) → Option Rule
 rule-met true x b = some x-granted
 rule-met false true b = some x-waiting
