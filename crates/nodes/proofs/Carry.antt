@@ -6,17 +6,19 @@ use mathlib.Core.Logic.{_≢_}
 use mathlib.Core.List.{List, []}
 use native.Mathlib.Omega.{arith}
 use native.Mathlib.Nat.{le-refl}
-use native.Mathlib.Numerals.{add-one}
 use lib.ListN.{length, getD, set, length-set}
 use lib.Dec.{eqb, leb}
 use Rattle.rules.specs.State as rules
 use Rattle.rules.specs.Steps.{receives, apply-save}
+use Rattle.rules.specs.Counter.{wct-mark, AddsMarks}
+use Rattle.rules.proofs.Counter.{adds-marks, content-after}
 use Rattle.rules.proofs.Table.{same?, below?}
 use Rattle.state.specs.Parts.{Parts, CONTENT, WCT, MARK, OWNER, PHASE}
-use Rattle.state.specs.View.{flat, view, no-tally}
+use Rattle.state.specs.View.{flat, view, no-tally, advanced}
 use Rattle.state.specs.Ready.{Table, Rising}
 use Rattle.state.proofs.Codes.{committed-code, written-code}
 use Rattle.state.proofs.Stores.{flat-in, flat-past, flat-same, flat-other}
+use Rattle.state.specs.declared.Answer.the-variants.{Accepted, Refused}
 use Rattle.nodes.specs.Carry.{sheet-in, Applied}
 
 -- a sheet of which both numbers are stored
@@ -52,11 +54,14 @@ module _ (m : ℕ) (w : List ℕ) (k v c : ℕ) (km : k < m) where
     flat-other m w CONTENT k v km WCT j (λ e q. z q),
   )
 
--- both numbers at once: the sheet is stored to, or stays
-received : (g : Bool) (s : rules.Sheet) (x : ℕ) {v c : ℕ} → v ≡ cond g x (s .content) → c ≡ cond g (s .wct + 1) (s .wct)
-    → _≡_ {A = rules.Sheet} (record { content = v; wct = c }) (cond g (rules.store s x) s)
-received true s x e f = rw (e, f, add-one (s .wct))
-received false s x e f = rw (e, f)
+-- both numbers of a sheet, as APPLY leaves them
+received : (s : rules.State) (n t k : ℕ) {v c : ℕ} → v ≡ cond (receives s n t k) (s .copy t k .content) (s .sheet k .content) → c ≡ s .sheet k .wct + wct-mark s n t k
+    → _≡_ {A = rules.Sheet} (record { content = v; wct = c }) (apply-save s n t .sheet k)
+received s n t k e f i = record { content = (e ∙ sym (content-after s n t k)) i; wct = (f ∙ sym (adds-marks s n t .sum k)) i }
+
+at-most-one : (g : Bool) → cond g 1 0 ≤ 1
+at-most-one true = omega arith
+at-most-one false = omega arith
 
 -- the rule's test in the row, and past it
 module _ (m : ℕ) (d : Parts) (value : List ℕ) (n t : ℕ) (w : List ℕ) (k : ℕ) where
@@ -65,6 +70,10 @@ module _ (m : ℕ) (d : Parts) (value : List ℕ) (n t : ℕ) (w : List ℕ) (k 
 
   gets-past : m ≤ k → receives (view m d value [] w no-tally) n t k ≡ false
   gets-past h = rw (flat-past m (d MARK) t k h) (rw (and-false (rules.is-committed (view m d value [] w no-tally .phase t))) (and-false (eqb (getD (d OWNER) k 0) n)))
+
+-- a refused command does not count among the accepted
+pub not-accepted : (r : ℕ) → Refused r ≡ Accepted → ⊥
+not-accepted r e = let z : _≡_ {A = ℕ} 0 1 = ap (λ a. advanced no-tally a .accepted) e in omega arith
 
 module _ {m : ℕ} {d : Parts} {value : List ℕ} {n t : ℕ} {w : List ℕ} where
   pub carry-none : Applied m d value n t w 0 w
@@ -81,20 +90,22 @@ module _ {m : ℕ} {d : Parts} {value : List ℕ} {n t : ℕ} {w : List ℕ} whe
     wct-still : k < m → getD w′ (m + k) 0 ≡ flat m w WCT k
     wct-still h = let z : WCT * m + k ≡ m + k = omega arith in rw z at (sym (flat-in m w′ WCT k h)) ∙ ap (λ s. s .wct) (a .others k (le-refl k))
 
-    pub can-rise : k < m → Rising m w → getD w′ (m + k) 0 < 4294967295
-    can-rise h r = rw (wct-still h) (r k)
+    -- with its mark added the counter fits
+    pub can-rise : k < m → Rising m w → (g : Bool) {u : ℕ} → u ≡ cond g 1 0 → getD w′ (m + k) 0 + u < 4294967296
+    can-rise h r g eu = let l : cond g 1 0 ≤ 1 = at-most-one g in omega (arith, wct-still h, r k)
 
     -- one sheet more
-    pub carry-on : k < m → Table 2 m w → {o p x v c : ℕ} {g : Bool} → o ≡ getD (d OWNER) k 0 → p ≡ getD (d PHASE) t 0 → x ≡ getD (d MARK) (t * m + k) 0
-        → g ≡ (eqb o n && (eqb p 4 && leb 2 x)) → v ≡ cond g (getD value (t * m + k) 0) (getD w′ k 0) → c ≡ cond g (getD w′ (m + k) 0 + 1) (getD w′ (m + k) 0)
-        → Applied m d value n t w (k + 1) (set (set w′ k v) (m + k) c)
-    carry-on h fits {v = v} {c = c} {g = g} eo ep ex eg ev ec =
+    pub carry-on : k < m → Table 2 m w → {o p x v u : ℕ} {g : Bool} → o ≡ getD (d OWNER) k 0 → p ≡ getD (d PHASE) t 0 → x ≡ getD (d MARK) (t * m + k) 0
+        → g ≡ (eqb o n && (eqb p 4 && leb 2 x)) → v ≡ cond g (getD value (t * m + k) 0) (getD w′ k 0) → u ≡ cond g 1 0
+        → Applied m d value n t w (k + 1) (set (set w′ k v) (m + k) (getD w′ (m + k) 0 + u))
+    carry-on h fits {v = v} {u = u} {g = g} eo ep ex eg ev eu =
+        let c = getD w′ (m + k) 0 + u in
         let er : g ≡ receives (view m d value [] w no-tally) n t k = eg ∙ rw (eo, ep, ex) (gets m d value n t w k h) in
         record {
           size = rw (length-set, length-set) (a .size);
           done = λ j l. same? j k
-              (λ e. rw e (sheet-stored m w′ k v c h (rw (a .size) fits) ∙ rw (← er)
-              (received g (sheet-in m w k) (flat m value t k) (ev ∙ rw (content-still h, flat-in m value t k h)) (ec ∙ rw (wct-still h)))))
+              (λ e. rw e (sheet-stored m w′ k v c h (rw (a .size) fits)
+              ∙ received (view m d value [] w no-tally) n t k (ev ∙ rw (er, content-still h, flat-in m value t k h)) (rw (eu, er, wct-still h))))
               (λ z. sheet-kept m w′ k v c h j z ∙ a .done j (omega arith));
           others = λ j l. sheet-kept m w′ k v c h j (λ e. omega arith) ∙ a .others j (omega arith);
         }
@@ -104,3 +115,10 @@ module _ {m : ℕ} {d : Parts} {value : List ℕ} {n t : ℕ} {w : List ℕ} whe
     all-applied e = fun-ext (λ j. below? j m
         (λ l. a .done j (omega arith))
         (λ l. rw (gets-past m d value n t w j l) (a .others j (omega arith))))
+
+    -- the counters, of which none past the row is raised
+    pub all-counted : k ≡ m → AddsMarks (view m d value [] w no-tally) n t (flat m w′ WCT)
+    all-counted e = record {
+      sum = λ j. ap (λ (f : ℕ → rules.Sheet). f j .wct) (all-applied e) ∙ adds-marks (view m d value [] w no-tally) n t .sum j;
+      exact = adds-marks (view m d value [] w no-tally) n t .exact;
+    }

@@ -8,7 +8,7 @@ ghost use Rattle.rules.specs.Bytes.{Take, Apply};
 ghost use Rattle.state.specs.Parts.{bytes, hints, STANDING, ORDER, TAKEN};
 ghost use Rattle.state.specs.Ready.{Ready, Rising, Gone, Trimmed, Hints, Table};
 ghost use Rattle.state.specs.Lent.{own, taking, applying, Moves, Keeps};
-ghost use Rattle.nodes.specs.Carry.{Applied};
+ghost use Rattle.nodes.specs.Carry.{Applied, Counts};
 use state::Answer;
 use state::COMMITTED;
 use state::Session;
@@ -51,17 +51,11 @@ pub fn take(b: &mut [u8], listed: &[u16], seen: &[u32], w: &[u32], m: usize, n: 
     }
 }
 
-// A sheet of owner o receives the content at node n: the save's phase is p and its mark there x.
+// A sheet of owner o receives the content at node n: the save's phase is p and its mark there x. All three are asked, so that nothing branches.
 fn receives(o: u8, n: u8, p: u8, x: u8) -> bool
     ensures { λ r. ⌜ r ≡ (eqb o n && (eqb p 4 && leb 2 x)) ⌝ }
 {
-    if o != n {
-        return false;
-    }
-    if p != COMMITTED {
-        return false;
-    }
-    WRITTEN <= x
+    (o == n) & ((p == COMMITTED) & (WRITTEN <= x))
 }
 
 // v, if g, and u otherwise.
@@ -71,12 +65,11 @@ fn pick(g: bool, v: u32, u: u32) -> u32
     if g { v } else { u }
 }
 
-// One more than u, if g.
-fn raise(g: bool, u: u32) -> u32
-    requires { ⌜ u < 4294967295 ⌝ }
-    ensures { λ r. ⌜ r ≡ cond g (u + 1) u ⌝ }
+// What APPLY adds to a sheet's WCT: 1, if the sheet receives a content, and 0 otherwise.
+fn wct_mark(g: bool) -> u32
+    ensures { λ r. ⌜ r ≡ cond g 1 0 ⌝ }
 {
-    if g { u + 1 } else { u }
+    g as u32
 }
 
 // The sheets of node n that save t wrote receive its contents, and their WCTs rise, if it is committed. All sheets are stored to, so that
@@ -93,7 +86,7 @@ fn carry_out(b: &[u8], value: &[u32], w: &mut [u32], m: usize, n: u8, t: usize)
         let x = b[from + k];
         let g = receives(o, n, p, x);
         let v = pick(g, value[t * m + k], w[k]);
-        let c = raise(g, w[m + k]);
+        let c = w[m + k] + wct_mark(g);
         w[k] = v;
         w[m + k] = c;
         k += 1;
@@ -131,6 +124,7 @@ pub fn apply(
     requires { ⌜ Ready m (bytes m (now b)) × Hints m (bytes m (now b)) (hints m (now listed)) × Table 32 m (now value) × Table 2 m (now w) × Rising m (now w) ⌝ }
     ensures { λ r. ⌜ Moves m (applying (now (b .entry)) (now (value .entry)) (now (w .entry))) (Apply n t) (applying (now (b .exit)) (now (value .entry)) (now (w .exit))) r ⌝ }
     ensures kept { λ _. ⌜ Keeps m (applying (now (b .entry)) (now (value .entry)) (now (w .entry))) (applying (now (b .exit)) (now (value .entry)) (now (w .exit))) ⌝ }
+    ensures marks { λ r. ⌜ Counts m (applying (now (b .entry)) (now (value .entry)) (now (w .entry))) n t (now (w .exit)) r ⌝ }
 {
     let all = state::nodes(b, m);
     if all <= n {

@@ -192,3 +192,36 @@ causes =
     -- node 0 found save 1 valid; node 1 has save 0's X at sheet 1
     ∷ case ("02 02 00 01  01 00  01 01  02 00 01  03 00 01 00 00 00 01  02 01 00  02 01 01  04 00  04 01  05 00  05 00  05 01  05 01") (fails 1 1 x-granted) "" "P 0 1 U\nP 1 1 U\nO 0 0 0\nO 1 0 0\nT 12 0 0\n"
     ∷ []
+
+-- ---- Request 5
+
+-- the marks of sheets 0 and 1 where node n carries out save t next; two sheets in each session
+pub record Marks : Type 0 where
+  pub session : String
+  pub node : ℕ
+  pub save : ℕ
+  pub of-0 : ℕ
+  pub of-1 : ℕ
+
+abbrev marks : String → (n t of-0 of-1 : ℕ) → Marks
+marks s n t a b = record { session = s; node = n; save = t; of-0 = a; of-1 = b }
+
+-- two nodes with a sheet each; save 0 writes both sheets, on sheet 0 the content that is there, and is committed
+abbrev both-written : String
+both-written = "02 02 00 01  01 00  02 00 00  03 00 00 00 00 00 00  02 00 01  03 00 01 00 00 00 05  04 00  05 00  05 01  06 00  "
+
+abbrev pub applies : List Marks
+applies =
+    -- save 0 wrote sheet 0, and has no copy of sheet 1
+    marks W-38 0 0 1 0
+    -- another node's sheet has none; the content was the same at sheet 0, 0, and the counter still rises
+    ∷ marks both-written 0 0 1 0
+    ∷ marks both-written 1 0 0 1
+    -- save 0 has only read sheet 1
+    ∷ marks (crossed ++ "05 00  05 01  06 00  ") 0 0 1 0
+    ∷ marks (crossed ++ "05 00  05 01  06 00  ") 1 0 0 0
+    -- save 1 wrote sheet 0 in its second run, and was given up there
+    ∷ marks (W-43 ++ "02 01 00  03 01 00 00 00 00 09  08 01  ") 0 1 0 0
+    -- it wrote the sheet in its first run and not in its last, which is committed
+    ∷ marks (W-43 ++ "02 01 00  04 01  ") 0 1 0 0
+    ∷ []

@@ -5,6 +5,7 @@ pub mod State
 pub mod Steps
 pub mod WhichPhase
 pub mod Causes
+pub mod Counter
 pub mod Serial
 pub mod Demand3
 pub mod Calls

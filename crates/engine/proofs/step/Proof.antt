@@ -142,7 +142,7 @@ same-length-19 c = search needs
 returns-7 : tie.Need-returns-7
 returns-7 c = let a = c .before .before .before .before .before .before .before .before .before .before .before .before .before .before .before .before .before .args in
     let x = slices (a .b .now) (a .listed .now) (a .value .now) (a .seen .now) (a .w .now) in
-    rw (c .before .before .before .before .before .before .before .before .before .before .c7 .given .1) (λ _. c .before .before .before .before .apply .ensures .0 x, λ _. c .before .before .before .before .apply .ensures .1 x)
+    rw (c .before .before .before .before .before .before .before .before .before .before .c7 .given .1) (λ _. c .before .before .before .before .apply .ensures .0 x, λ _. c .before .before .before .before .apply .ensures .1 .0 x)
 
 same-length-20 : tie.Need-same-length-20
 same-length-20 c = search needs

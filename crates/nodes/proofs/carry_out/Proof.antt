@@ -62,17 +62,21 @@ slice-read-pick c = let s = c .before .before .before .before .before .before .b
 pick-requires : tie.Need-pick-requires Inv-loop μ-loop
 pick-requires c κs = search needs
 
-add-raise : tie.Need-add-raise Inv-loop μ-loop
-add-raise c = let s = c .before .before .before .before .before .before .before .before .before .before .before .before .before in omega (arith, s .pre .0 .sheets16)
+add-c : tie.Need-add-c Inv-loop μ-loop
+add-c c = let s = c .before .before .before .before .before .before .before .before .before .before .before .before .before in omega (arith, s .pre .0 .sheets16)
 
-mul-raise : tie.Need-mul-raise Inv-loop μ-loop
-mul-raise c = search needs
+mul-c : tie.Need-mul-c Inv-loop μ-loop
+mul-c c = search needs
 
-slice-read-raise : tie.Need-slice-read-raise Inv-loop μ-loop
-slice-read-raise c = let s = c .before .before .before .before .before .before .before .before .before .before .before .before .before .before in omega (arith, c .before .before .before .before .before .before .before .before .loop .inv .1 .size, s .pre .2)
+slice-read-c : tie.Need-slice-read-c Inv-loop μ-loop
+slice-read-c c = let s = c .before .before .before .before .before .before .before .before .before .before .before .before .before .before in omega (arith, c .before .before .before .before .before .before .before .before .loop .inv .1 .size, s .pre .2)
 
-raise-requires : tie.Need-raise-requires Inv-loop μ-loop
-raise-requires c κs = can-rise (c .before .before .before .before .before .before .before .before .loop .w) (c .before .before .before .before .before .before .before .before .loop .inv .1) (c .before .before .before .before .before .before .before .loop-test .taken) (c .before .before .before .before .before .before .before .before .before .before .before .before .before .before .pre .3)
+wct-mark-requires : tie.Need-wct-mark-requires Inv-loop μ-loop
+wct-mark-requires c κs = search needs
+
+add-c-2 : tie.Need-add-c-2 Inv-loop μ-loop
+add-c-2 c = let l = c .before .before .before .before .before .before .before .before .before .loop in
+    record { fits = can-rise (l .w) (l .inv .1) (c .before .before .before .before .before .before .before .before .loop-test .taken) (c .before .before .before .before .before .before .before .before .before .before .before .before .before .before .before .pre .3) (c .before .before .before .before .before .receives .result) (c .wct-mark .ensures) }
 
 mul-w : tie.Need-mul-w Inv-loop μ-loop
 mul-w c = search needs
@@ -101,7 +105,7 @@ loop-again c = let s = c .before .before .before .before .before .before .before
     let h = c .before .before .before .before .before .before .before .before .loop-test .taken in (
       omega arith,
       carry-on (l .w) (l .inv .1) h (s .pre .2) (c .before .before .before .before .before .before .before .owner .ensures) (c .before .before .before .before .before .before .before .before .before .before .before .phase .ensures) (row-get (byte-sizes (s .args .m)) (s .args .b .now) MARK (s .args .m) (s .args .t) (l .k) (c .before .before .before .before .before .before .before .before .before .before .marks .ensures) (cell-in (s .args .m) (s .pre .4) h))
-          (c .before .before .before .before .before .receives .ensures) (c .before .before .pick .ensures) (c .raise .ensures),
+          (c .before .before .before .before .before .receives .ensures) (c .before .before .pick .ensures) (c .wct-mark .ensures),
     )
 
 same-length : tie.Need-same-length Inv-loop μ-loop
@@ -130,10 +134,11 @@ carry-out-spec =
     mul-pick-3
     slice-read-pick
     pick-requires
-    add-raise
-    mul-raise
-    slice-read-raise
-    raise-requires
+    add-c
+    mul-c
+    slice-read-c
+    wct-mark-requires
+    add-c-2
     mul-w
     slice-write-w
     add-w

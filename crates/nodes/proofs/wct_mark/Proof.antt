@@ -1,0 +1,21 @@
+-- By cases on the test.
+use mathlib.Core.Path.{_≡_, refl}
+use mathlib.Core.Bool.{Bool, true, false, cond}
+use mir.Val.{boolByte}
+use borrow.Author.Needs.{needs}
+use Rattle.nodes.proofs.wct_mark.Statement.{statement}
+use Rattle.nodes.proofs.wct_mark.Tie as tie
+
+-- a test's number
+number : (g : Bool) → boolByte g ≡ cond g 1 0
+number true = refl
+number false = refl
+
+cast-result : tie.Need-cast-result
+cast-result c = search needs
+
+returns : tie.Need-returns
+returns c = number (c .args .g)
+
+pub wct-mark-spec : {M : Type 1} → statement M
+wct-mark-spec = tie.close (tie.spec cast-result returns)
