@@ -16,9 +16,9 @@ use Rattle.rules.proofs.Table.{same?, below?}
 use Rattle.state.specs.Parts.{Parts, CONTENT, WCT, MARK, OWNER, PHASE}
 use Rattle.state.specs.View.{flat, view, no-tally, advanced}
 use Rattle.state.specs.Ready.{Table, Rising}
+use Rattle.state.specs.declared.Answer.the-variants.{Accepted, Refused}
 use Rattle.state.proofs.Codes.{committed-code, written-code}
 use Rattle.state.proofs.Stores.{flat-in, flat-past, flat-same, flat-other}
-use Rattle.state.specs.declared.Answer.the-variants.{Accepted, Refused}
 use Rattle.nodes.specs.Carry.{sheet-in, Applied}
 
 -- a sheet of which both numbers are stored

@@ -5,8 +5,8 @@ use mathlib.Core.List.{List, []}
 use lib.ListN.{length}
 use Rattle.rules.specs.State.{Sheet}
 use Rattle.rules.specs.Steps.{apply-save}
-use Rattle.state.specs.Parts.{Parts, CONTENT, WCT}
 use Rattle.rules.specs.Counter.{AddsMarks}
+use Rattle.state.specs.Parts.{Parts, CONTENT, WCT}
 use Rattle.state.specs.View.{flat, view, no-tally}
 use Rattle.state.specs.Lent.{Lent, seen-by}
 use Rattle.state.specs.declared.Answer.{Answer}

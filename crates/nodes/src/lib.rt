@@ -51,7 +51,7 @@ pub fn take(b: &mut [u8], listed: &[u16], seen: &[u32], w: &[u32], m: usize, n: 
     }
 }
 
-// A sheet of owner o receives the content at node n: the save's phase is p and its mark there x. All three are asked, so that nothing branches.
+// A sheet of owner o receives the content at node n: the save's phase is p and its mark there x. Each is asked, so that nothing branches.
 fn receives(o: u8, n: u8, p: u8, x: u8) -> bool
     ensures { λ r. ⌜ r ≡ (eqb o n && (eqb p 4 && leb 2 x)) ⌝ }
 {
@@ -72,8 +72,8 @@ fn wct_mark(g: bool) -> u32
     g as u32
 }
 
-// The sheets of node n that save t wrote receive its contents, and their WCTs rise, if it is committed. All sheets are stored to, so that
-// nothing branches.
+// The sheets of node n that save t wrote receive its contents, if it is committed, and each WCT has its mark added. All sheets are stored
+// to, so that nothing branches.
 fn carry_out(b: &[u8], value: &[u32], w: &mut [u32], m: usize, n: u8, t: usize)
     requires { ⌜ Ready m (bytes m (now b)) × Table 32 m (now value) × Table 2 m (now w) × Rising m (now w) × (t < 32) ⌝ }
     ensures { λ _. ⌜ Applied m (bytes m (now (b .entry))) (now (value .entry)) n t (now (w .entry)) m (now (w .exit)) ⌝ }
