@@ -1,6 +1,6 @@
 //! Compares the engine, linked as a static library, with the model on seeded sessions, each with a
-//! list of steps to be written and with neighbouring steps swapped, and checks demand 3 and the causes
-//! of TAKE's answers on each.
+//! list of steps to be written and with neighbouring steps swapped, and checks demand 3, the causes of
+//! TAKE's answers and the counters that APPLY raises on each.
 //!
 //! `fuzz --sessions N --seed S [--prefixes] [--lengths] [--states]`
 //!
@@ -9,7 +9,7 @@
 //! state that small sessions reach. The end status is 1 on a difference, on a
 //! broken demand, and where a run of 1,000 sessions or more has left out a refusal, or one of
 //! 20,000 or more a command in some phase of its save, an outcome of a writing or a reading, a kind
-//! of neighbours or a kind of causes.
+//! of neighbours, of causes or of marks.
 
 use model::command::{Command, Header, MOST_BYTES};
 use model::demand3::{self, Met};
@@ -18,13 +18,14 @@ use model::generate::{self, Input};
 use model::neighbours::every_pair;
 use model::prng::Prng;
 use model::report::{write_report, LEAST_BUFFER};
-use model::session::{coded_answer, Cell, Session, Step};
+use model::session::{coded_answer, Cell, Session};
 use model::states;
 use std::collections::BTreeMap;
 use std::process::exit;
 use writing::Tally;
 
 mod causes;
+mod counters;
 mod engine;
 mod neighbours;
 mod writing;
@@ -41,7 +42,7 @@ const CELLS: usize = 7 * Phase::ALL.len();
 
 /// From so many sessions on, a refusal or a kind of commit that never occurred is a failure; from so
 /// many, a command that never came in some phase of its save, an outcome of a writing or reading, a
-/// kind of neighbours or a kind of causes.
+/// kind of neighbours, of causes or of marks.
 const ALL_REFUSALS: u64 = 1_000;
 const ALL_CELLS: u64 = 20_000;
 
@@ -63,6 +64,7 @@ struct Counts {
     longest_queue: usize,
     met: Met,
     causes: causes::Counts,
+    counters: counters::Counts,
     neighbours: neighbours::Counts,
     writing: writing::Counts,
 }
@@ -147,6 +149,7 @@ fn one_session(seed: u64, prefixes: bool, counts: &mut Counts) -> Result<(), Str
     }
     compared
         .and_then(|()| writing::one_session(&session, &mut prng, &mut counts.writing))
+        .and_then(|()| counters::one_session(&session, &run, &mut counts.counters))
         .map_err(|trouble| with_smaller(trouble, &session, &buffer))?;
     neighbours::one_session(&session, &run, &mut swap_prng, &mut counts.neighbours)?;
     count(&session, &run, &buffer, met, counts);
@@ -191,11 +194,8 @@ fn every_state(header: &Header, saves: usize) -> Result<(), String> {
             })?;
             pairs_tried += neighbours::in_state(session, &run, &pairs)?;
         }
-        let last = run.steps.last().filter(|_| run.refused.is_none());
-        if matches!(last, Some(Step { command: Command::Take { .. }, .. })) {
-            causes::one_session(session, &run, &mut Default::default())?;
-        }
-        compare(session, &run, &buffer, &mut prng)
+        compare(session, &run, &buffer, &mut prng)?;
+        check_last(session, &run)
     })?;
     println!(
         "states: {} nodes, {} sheets, {saves} saves: {tried} commands in {} {states} states, \
@@ -205,6 +205,16 @@ fn every_state(header: &Header, saves: usize) -> Result<(), String> {
         if whole { "all" } else { "the first" },
     );
     Ok(())
+}
+
+/// A TAKE's causes or an APPLY's counters, where the session's last command is one and is accepted.
+fn check_last(session: &[u8], run: &Session) -> Result<(), String> {
+    let last = run.steps.last().filter(|_| run.refused.is_none());
+    match last.map(|step| step.command) {
+        Some(Command::Take { .. }) => causes::one_session(session, run, &mut Default::default()),
+        Some(Command::Apply { .. }) => counters::one_session(session, run, &mut Default::default()),
+        _ => Ok(()),
+    }
 }
 
 /// One session: the length, every byte of the buffer and around it, the answer, the part shown.
@@ -357,6 +367,7 @@ fn count(session: &[u8], run: &Session, buffer: &[u8], met: Met, counts: &mut Co
 /// Prints the counts; says whether something never occurred that so many sessions have.
 fn close(counts: &Counts) -> bool {
     let cause_left_out = counts.causes.close();
+    let mark_left_out = counts.counters.close();
     let neighbours_left_out = counts.neighbours.close();
     let outcome_left_out = counts.writing.close();
     println!(
@@ -393,7 +404,8 @@ fn close(counts: &Counts) -> bool {
     let refusal_left_out = counts.refusals[1..].contains(&0);
     let commit_left_out = counts.first_commits == 0 || counts.second_commits == 0;
     let cell_left_out = counts.cells.len() < CELLS;
-    let kind_left_out = cell_left_out || outcome_left_out || neighbours_left_out || cause_left_out;
+    let kind_left_out =
+        cell_left_out || outcome_left_out || neighbours_left_out || cause_left_out || mark_left_out;
     counts.sessions >= ALL_REFUSALS && (refusal_left_out || commit_left_out)
         || counts.sessions >= ALL_CELLS && kind_left_out
 }

@@ -6,6 +6,7 @@
 
 pub mod causes;
 pub mod command;
+pub mod counters;
 pub mod demand3;
 pub mod engine;
 pub mod generate;
@@ -22,6 +23,8 @@ pub mod writing;
 mod cases;
 #[cfg(test)]
 mod causes_cases;
+#[cfg(test)]
+mod counters_cases;
 #[cfg(test)]
 mod neighbours_cases;
 #[cfg(test)]
