@@ -49,8 +49,8 @@ impl Counts {
     pub fn close(&self) -> bool {
         println!(
             "counters: {} APPLYs compared, of a committed save {} of a dropped one {}; marks of 1 {}, \
-             of 0 at a sheet of the node {} (X and not written {} written and dropped {}), of 0 at \
-             another node's that the save wrote {}; the same content stored {}",
+             of 0 at a sheet of the node {} (X, committed and not written {} written and dropped {}), \
+             of 0 at another node's that a committed save wrote {}; the same content stored {}",
             self.applies[0] + self.applies[1],
             self.applies[0],
             self.applies[1],

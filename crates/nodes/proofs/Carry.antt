@@ -59,10 +59,6 @@ received : (s : rules.State) (n t k : ℕ) {v c : ℕ} → v ≡ cond (receives 
     → _≡_ {A = rules.Sheet} (record { content = v; wct = c }) (apply-save s n t .sheet k)
 received s n t k e f i = record { content = (e ∙ sym (content-after s n t k)) i; wct = (f ∙ sym (adds-marks s n t .sum k)) i }
 
-at-most-one : (g : Bool) → cond g 1 0 ≤ 1
-at-most-one true = omega arith
-at-most-one false = omega arith
-
 -- the rule's test in the row, and past it
 module _ (m : ℕ) (d : Parts) (value : List ℕ) (n t : ℕ) (w : List ℕ) (k : ℕ) where
   gets : k < m → (eqb (getD (d OWNER) k 0) n && (eqb (getD (d PHASE) t 0) 4 && leb 2 (getD (d MARK) (t * m + k) 0))) ≡ receives (view m d value [] w no-tally) n t k
@@ -91,8 +87,8 @@ module _ {m : ℕ} {d : Parts} {value : List ℕ} {n t : ℕ} {w : List ℕ} whe
     wct-still h = let z : WCT * m + k ≡ m + k = omega arith in rw z at (sym (flat-in m w′ WCT k h)) ∙ ap (λ s. s .wct) (a .others k (le-refl k))
 
     -- with its mark added the counter fits
-    pub can-rise : k < m → Rising m w → (g : Bool) {u : ℕ} → u ≡ cond g 1 0 → getD w′ (m + k) 0 + u < 4294967296
-    can-rise h r g eu = let l : cond g 1 0 ≤ 1 = at-most-one g in omega (arith, wct-still h, r k)
+    pub can-rise : k < m → Rising m w → {u : ℕ} → u ≤ 1 → getD w′ (m + k) 0 + u < 4294967296
+    can-rise h r l = omega (arith, wct-still h, r k)
 
     -- one sheet more
     pub carry-on : k < m → Table 2 m w → {o p x v u : ℕ} {g : Bool} → o ≡ getD (d OWNER) k 0 → p ≡ getD (d PHASE) t 0 → x ≡ getD (d MARK) (t * m + k) 0

@@ -51,7 +51,8 @@ pub fn take(b: &mut [u8], listed: &[u16], seen: &[u32], w: &[u32], m: usize, n: 
     }
 }
 
-// A sheet of owner o receives the content at node n: the save's phase is p and its mark there x. Each is asked, so that nothing branches.
+// A sheet of owner o receives the content at node n: the save's phase is p, and x says whether it wrote the sheet. All three tests are made,
+// so that none is a branch.
 fn receives(o: u8, n: u8, p: u8, x: u8) -> bool
     ensures { λ r. ⌜ r ≡ (eqb o n && (eqb p 4 && leb 2 x)) ⌝ }
 {
@@ -68,12 +69,13 @@ fn pick(g: bool, v: u32, u: u32) -> u32
 // What APPLY adds to a sheet's WCT: 1, if the sheet receives a content, and 0 otherwise.
 fn wct_mark(g: bool) -> u32
     ensures { λ r. ⌜ r ≡ cond g 1 0 ⌝ }
+    ensures bit { λ r. ⌜ r ≤ 1 ⌝ }
 {
     g as u32
 }
 
 // The sheets of node n that save t wrote receive its contents, if it is committed, and each WCT has its mark added. All sheets are stored
-// to, so that nothing branches.
+// to, and nothing branches on the way to a sum.
 fn carry_out(b: &[u8], value: &[u32], w: &mut [u32], m: usize, n: u8, t: usize)
     requires { ⌜ Ready m (bytes m (now b)) × Table 32 m (now value) × Table 2 m (now w) × Rising m (now w) × (t < 32) ⌝ }
     ensures { λ _. ⌜ Applied m (bytes m (now (b .entry))) (now (value .entry)) n t (now (w .entry)) m (now (w .exit)) ⌝ }

@@ -1,4 +1,4 @@
--- Every case of the table, by one computation over the definitions.
+-- Every case of the two tables, each table by one computation over the definitions.
 use mathlib.Core.Path.{_≡_, refl}
 use mathlib.Core.List.{List, map, _++_}
 use mathlib.Core.Option.{orElse}

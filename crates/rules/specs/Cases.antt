@@ -1,4 +1,5 @@
--- "Cases": sessions in hexadecimal, with what a call answers, what is shown, and the report. proofs/Cases.antt proves the whole table.
+-- "Cases": sessions in hexadecimal, with what a call answers, what is shown, and the report; and APPLYs with their marks. proofs/Cases.antt proves
+-- both tables.
 use Prim.Native.Nat.{ℕ, _+_, _-_, _*_}
 use Prim.Native.Char.{code}
 use Prim.Native.String.{String, [] as end, _∷_ as _then_, _++_}
@@ -214,7 +215,7 @@ abbrev pub applies : List Marks
 applies =
     -- save 0 wrote sheet 0, and has no copy of sheet 1
     marks W-38 0 0 1 0
-    -- another node's sheet has none; the content was the same at sheet 0, 0, and the counter still rises
+    -- each node's APPLY has 1 at its own sheet alone; at sheet 0 the content, 0, was the same
     ∷ marks both-written 0 0 1 0
     ∷ marks both-written 1 0 0 1
     -- save 0 has only read sheet 1

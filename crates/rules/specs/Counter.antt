@@ -16,7 +16,8 @@ abbrev pub raises : State → (n t k : ℕ) → Bool
 raises s n t k = ltb (s .sheet k .wct) (apply-save s n t .sheet k .wct)
 
 -- Of WCTs that an APPLY left, by sheet: "the WCT after is the WCT before plus the mark", and "the mark is 1 exactly where document 01's APPLY
--- raises the WCT". Whatever the save's phase; at another node's sheet, which document 01's APPLY does not raise, the mark is 0.
+-- raises the WCT". It is said of a save in any phase and of every sheet number; at another node's sheet, whose WCT document 01's APPLY leaves,
+-- the mark is 0.
 pub record AddsMarks (s : State) (n t : ℕ) (after : ℕ → ℕ) : Type 0 where
   pub sum : (k : ℕ) → after k ≡ s .sheet k .wct + wct-mark s n t k
   pub exact : (k : ℕ) → wct-mark s n t k ≡ cond (raises s n t k) 1 0

@@ -76,7 +76,7 @@ wct-mark-requires c κs = search needs
 
 add-c-2 : tie.Need-add-c-2 Inv-loop μ-loop
 add-c-2 c = let l = c .before .before .before .before .before .before .before .before .before .loop in
-    record { fits = can-rise (l .w) (l .inv .1) (c .before .before .before .before .before .before .before .before .loop-test .taken) (c .before .before .before .before .before .before .before .before .before .before .before .before .before .before .before .pre .3) (c .before .before .before .before .before .receives .result) (c .wct-mark .ensures) }
+    record { fits = can-rise (l .w) (l .inv .1) (c .before .before .before .before .before .before .before .before .loop-test .taken) (c .before .before .before .before .before .before .before .before .before .before .before .before .before .before .before .pre .3) (c .wct-mark .ensures .1) }
 
 mul-w : tie.Need-mul-w Inv-loop μ-loop
 mul-w c = search needs
@@ -105,7 +105,7 @@ loop-again c = let s = c .before .before .before .before .before .before .before
     let h = c .before .before .before .before .before .before .before .before .loop-test .taken in (
       omega arith,
       carry-on (l .w) (l .inv .1) h (s .pre .2) (c .before .before .before .before .before .before .before .owner .ensures) (c .before .before .before .before .before .before .before .before .before .before .before .phase .ensures) (row-get (byte-sizes (s .args .m)) (s .args .b .now) MARK (s .args .m) (s .args .t) (l .k) (c .before .before .before .before .before .before .before .before .before .before .marks .ensures) (cell-in (s .args .m) (s .pre .4) h))
-          (c .before .before .before .before .before .receives .ensures) (c .before .before .pick .ensures) (c .wct-mark .ensures),
+          (c .before .before .before .before .before .receives .ensures) (c .before .before .pick .ensures) (c .wct-mark .ensures .0),
     )
 
 same-length : tie.Need-same-length Inv-loop μ-loop
