@@ -1,7 +1,7 @@
 -- A turn of APPLY's loop over the sheets, and what the loop leaves.
 use Prim.Native.Nat.{ℕ, _+_, _*_, _≤_, _<_}
 use mathlib.Core.Path.{_≡_, refl, sym, ap, _∙_, fun-ext}
-use mathlib.Core.Bool.{Bool, false, _&&_, cond, and-false}
+use mathlib.Core.Bool.{Bool, false, _&&_, not, cond, and-false}
 use mathlib.Core.Logic.{_≢_}
 use mathlib.Core.List.{List, []}
 use native.Mathlib.Omega.{arith}
@@ -92,7 +92,8 @@ module _ {m : ℕ} {d : Parts} {value : List ℕ} {n t : ℕ} {w : List ℕ} whe
 
     -- one sheet more
     pub carry-on : k < m → Table 2 m w → {o p x v u : ℕ} {g : Bool} → o ≡ getD (d OWNER) k 0 → p ≡ getD (d PHASE) t 0 → x ≡ getD (d MARK) (t * m + k) 0
-        → g ≡ (eqb o n && (eqb p 4 && leb 2 x)) → v ≡ cond g (getD value (t * m + k) 0) (getD w′ k 0) → u ≡ cond g 1 0
+        → g ≡ (eqb o n && (eqb p 4 && leb 2 x)) → v ≡ cond g (getD value (t * m + k) 0) (getD w′ k 0)
+        → u ≡ cond (g && not (eqb (getD value (t * m + k) 0) (getD w′ k 0))) 1 0
         → Applied m d value n t w (k + 1) (set (set w′ k v) (m + k) (getD w′ (m + k) 0 + u))
     carry-on h fits {v = v} {u = u} {g = g} eo ep ex eg ev eu =
         let c = getD w′ (m + k) 0 + u in
@@ -101,7 +102,7 @@ module _ {m : ℕ} {d : Parts} {value : List ℕ} {n t : ℕ} {w : List ℕ} whe
           size = rw (length-set, length-set) (a .size);
           done = λ j l. same? j k
               (λ e. rw e (sheet-stored m w′ k v c h (rw (a .size) fits)
-              ∙ received (view m d value [] w no-tally) n t k (ev ∙ rw (er, content-still h, flat-in m value t k h)) (rw (eu, er, wct-still h))))
+              ∙ received (view m d value [] w no-tally) n t k (ev ∙ rw (er, content-still h, flat-in m value t k h)) (rw (eu, er, wct-still h, content-still h, flat-in m value t k h))))
               (λ z. sheet-kept m w′ k v c h j z ∙ a .done j (omega arith));
           others = λ j l. sheet-kept m w′ k v c h j (λ e. omega arith) ∙ a .others j (omega arith);
         }

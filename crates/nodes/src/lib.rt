@@ -1,7 +1,7 @@
 // The commands at a node: TAKE and APPLY. Each does what its rule says.
 ghost use Prim.Native.Nat.{_+_, _≤_, _<_};
 ghost use mathlib.Core.Path.{_≡_};
-ghost use mathlib.Core.Bool.{_&&_, cond};
+ghost use mathlib.Core.Bool.{_&&_, not, cond};
 ghost use lib.ListN.{getD};
 ghost use lib.Dec.{eqb, leb};
 ghost use Rattle.rules.specs.Bytes.{Take, Apply};
@@ -66,12 +66,12 @@ fn pick(g: bool, v: u32, u: u32) -> u32
     if g { v } else { u }
 }
 
-// What APPLY adds to a sheet's WCT: 1, if the sheet receives a content, and 0 otherwise.
-fn wct_mark(g: bool) -> u32
-    ensures { λ r. ⌜ r ≡ cond g 1 0 ⌝ }
+// What APPLY adds to a sheet's WCT: 1, if the sheet receives a content, v, and has another, u; 0 otherwise.
+fn wct_mark(g: bool, v: u32, u: u32) -> u32
+    ensures { λ r. ⌜ r ≡ cond (g && not (eqb v u)) 1 0 ⌝ }
     ensures bit { λ r. ⌜ r ≤ 1 ⌝ }
 {
-    g as u32
+    (g & (v != u)) as u32
 }
 
 // The sheets of node n that save t wrote receive its contents, if it is committed, and each WCT has its mark added. All sheets are stored
@@ -87,9 +87,10 @@ fn carry_out(b: &[u8], value: &[u32], w: &mut [u32], m: usize, n: u8, t: usize)
         let o = state::owner(b, m, k);
         let x = b[from + k];
         let g = receives(o, n, p, x);
-        let v = pick(g, value[t * m + k], w[k]);
-        let c = w[m + k] + wct_mark(g);
-        w[k] = v;
+        let v = value[t * m + k];
+        let u = w[k];
+        let c = w[m + k] + wct_mark(g, v, u);
+        w[k] = pick(g, v, u);
         w[m + k] = c;
         k += 1;
     }

@@ -13,19 +13,8 @@ use Rattle.rules.specs.Serial.{History, carry-out}
 use Rattle.rules.proofs.Table.{bool, same?, cond-at, clash, upd2-at, upd2-same, upd2-other, and-l, and-r}
 use Rattle.rules.proofs.Places.{at, entries-cong, entries-without, fold-cong, fold-one}
 use Rattle.rules.proofs.Invariant.{Stands, Locks, live, Queues, storing, stores, left-by, Inv}
+use Rattle.rules.proofs.Storing.{store-rises, store-same}
 use Rattle.rules.proofs.Phases.{committed-locked, committed-closed, x-claims}
-
--- ---- When the counter rises: all that the proof knows of `store`
-
-store-rises : (c : Sheet) (v : ℕ) → c .wct ≤ store c v .wct
-store-rises c v = omega arith
-
--- a counter that has not risen shows the content that it showed
-store-same : (c : Sheet) (v n : ℕ) → n ≤ c .wct → n ≡ store c v .wct → (n ≡ c .wct) × (v ≡ c .content)
-store-same c v n o e = absurd (too-old o e)
-  where
-    too-old : {x y : ℕ} → x ≤ y → x ≡ suc y → ⊥
-    too-old o z = omega arith
 
 module _ (s : State) (l : History) (r : ℕ → ℕ → Option ℕ) (n t : ℕ) (v : Inv s l r) (end : over (s .phase t) ≡ true) (st : Stands (s .order) (s .place) t)
     (hp : s .place t < s .taken n) (fresh : l .applied n t ≡ false) where

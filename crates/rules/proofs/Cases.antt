@@ -10,7 +10,7 @@ use Rattle.rules.specs.Steps.{x-on, accepted, Result, answered, step, ru
 use Rattle.rules.specs.Calls.{Reply, session-run, stop, reply, part, shown}
 use Rattle.rules.specs.Counter.{wct-mark}
 use Rattle.rules.specs.Report.{figures, decimal, field, rows, place-line, place-lines, sheet-line, sheet-lines, tally-line, refusal-line, stop-line, state-lines, report}
-use Rattle.rules.specs.Cases.{Case, hex, text, starred, refusals, others, neighbours, causes, Marks, applies}
+use Rattle.rules.specs.Cases.{Case, hex, text, starred, refusals, others, neighbours, causes, Marks, applies, unchanged}
 
 record Told : Type 0 where
   answer : Reply
@@ -24,7 +24,7 @@ abbrev stated : Case → Told
 stated c = record { answer = c .answer; shown-bytes = hex (c .shown); lines = text (c .lines) }
 
 abbrev table : List Case
-table = starred ++ refusals ++ others ++ neighbours ++ causes
+table = starred ++ refusals ++ others ++ neighbours ++ causes ++ unchanged
 
 pub cases : map computed table ≡ map stated table
 unfolding upd upd2 row all any orElse first-below read-from fresh x-on run stop reply part figures decimal field rows place-line place-lines sheet-line sheet-lines tally-line refusal-line stop-line state-lines report

@@ -1,26 +1,38 @@
--- Document 01's APPLY adds the mark.
+-- APPLY adds the mark.
 use Prim.Native.Nat.{ℕ, _+_}
-use mathlib.Core.Path.{_≡_, refl}
-use mathlib.Core.Bool.{Bool, true, false, cond}
+use mathlib.Core.Path.{_≡_, refl, sym, ap, _∙_}
+use mathlib.Core.Bool.{Bool, true, false, _&&_, not, cond}
 use native.Mathlib.Omega.{arith}
-use lib.Dec.{ltb}
+use lib.Dec.{eqb, ltb}
 use borrow.Author.Tests.{lt-ltb, le-ltb}
 use Rattle.rules.specs.State.{Sheet, store, State}
 use Rattle.rules.specs.Steps.{receives, apply-save}
 use Rattle.rules.specs.Counter.{AddsMarks}
+use Rattle.rules.proofs.Storing.{store-adds}
+
+-- a bit that is added raises exactly where it is 1
+raised : (w : ℕ) (b : Bool) → _≡_ {A = ℕ} (cond b 1 0) (cond (ltb w (w + cond b 1 0)) 1 0)
+raised w true = rw (lt-ltb w (w + 1) (omega arith))
+raised w false = rw (le-ltb w (w + 0) (omega arith))
+
+other-way : (b : Bool) → _≡_ {A = ℕ} (cond b 0 1) (cond (not b) 1 0)
+other-way true = refl
+other-way false = refl
 
 -- a sheet that is stored to, or stays
 module _ (c : Sheet) (v : ℕ) where
   abbrev after : Bool → Sheet
   after g = cond g (store c v) c
 
-  by-mark : (g : Bool) → after g .wct ≡ c .wct + cond g 1 0
-  by-mark true = omega arith
+  abbrev marked : Bool → Bool
+  marked g = g && not (eqb v (c .content))
+
+  by-mark : (g : Bool) → after g .wct ≡ c .wct + cond (marked g) 1 0
+  by-mark true = store-adds c v ∙ ap (λ n. c .wct + n) (other-way (eqb v (c .content)))
   by-mark false = omega arith
 
-  where-raised : (g : Bool) → _≡_ {A = ℕ} (cond g 1 0) (cond (ltb (c .wct) (after g .wct)) 1 0)
-  where-raised true = rw (lt-ltb (c .wct) (store c v .wct) (omega arith))
-  where-raised false = rw (le-ltb (c .wct) (c .wct) (omega arith))
+  where-raised : (g : Bool) → _≡_ {A = ℕ} (cond (marked g) 1 0) (cond (ltb (c .wct) (after g .wct)) 1 0)
+  where-raised g = raised (c .wct) (marked g) ∙ ap (λ n. cond (ltb (c .wct) n) 1 0) (sym (by-mark g))
 
   content-by : (g : Bool) → after g .content ≡ cond g v (c .content)
   content-by true = refl

@@ -17,6 +17,7 @@ use Rattle.rules.specs.State.{Sheet, store, Tally, State, fresh, is-firs
 use Rattle.rules.specs.Steps.{check, Checked, pass, refuse, counted, counted-first, counted-second, submit-save, decide-save, receives, effect, answer, step-by, step, run}
 use Rattle.rules.specs.Serial.{History, no-history, says-again, hear, reads-after}
 use Rattle.rules.proofs.Table.{bool, same?, clash, upd-same, upd-other, upd-at, any-at, any-none, cond-at}
+use Rattle.rules.proofs.Storing.{store-most}
 use Rattle.rules.proofs.Places.{at}
 use Rattle.rules.proofs.Invariant.{joined, Inv}
 use Rattle.rules.proofs.Accepted.{keeps, starts, run-accepts, run-refuses}
@@ -56,7 +57,7 @@ module _ (s : State) (v : Counted (s .sheet) (s .tally)) where
   effect-counted (Decide t) = decide-counted t (s .failed t)
   effect-counted (Apply n t) = record {
     wct = λ k. cond-at (λ c. c .wct ≤ suc (s .tally .accepted)) (receives s n t k) (store (s .sheet k) (s .copy t k .content)) (s .sheet k)
-        (λ _. omega (arith, v .wct k)) (λ _. omega (arith, v .wct k));
+        (λ _. omega (arith, v .wct k, store-most (s .sheet k) (s .copy t k .content))) (λ _. omega (arith, v .wct k));
     first = more v .first;
     second = more v .second;
   }

@@ -37,7 +37,7 @@ turns-fold l k order place zero only h = refl
 turns-fold l k order place (suc p) only h =
     rw (take-suc order p 0 h, foldl-append (turn l k) new-sheet (take p order) (at order p ∷ []), turns-fold l k order place p only (omega arith), eq-eqb (place (at order p)) p (only p h))
 
-committed-sure : (p : Phase) (f : Bool) (q m : ℕ) → is-committed p ≡ true → Sure p f q m
+pub committed-sure : (p : Phase) (f : Bool) (q m : ℕ) → is-committed p ≡ true → Sure p f q m
 committed-sure unused f q m e = true≢false (sym e)
 committed-sure first f q m e = true≢false (sym e)
 committed-sure submitted f q m e = absurd (true≢false (sym e))

@@ -215,8 +215,8 @@ abbrev pub applies : List Marks
 applies =
     -- save 0 wrote sheet 0, and has no copy of sheet 1
     marks W-38 0 0 1 0
-    -- each node's APPLY has 1 at its own sheet alone; at sheet 0 the content, 0, was the same
-    ∷ marks both-written 0 0 1 0
+    -- each node's APPLY has a mark at its own sheet alone; at sheet 0 the content, 0, is the one there
+    ∷ marks both-written 0 0 0 0
     ∷ marks both-written 1 0 0 1
     -- save 0 has only read sheet 1
     ∷ marks (crossed ++ "05 00  05 01  06 00  ") 0 0 1 0
@@ -225,4 +225,42 @@ applies =
     ∷ marks (W-43 ++ "02 01 00  03 01 00 00 00 00 09  08 01  ") 0 1 0 0
     -- it wrote the sheet in its first run and not in its last, which is committed
     ∷ marks (W-43 ++ "02 01 00  04 01  ") 0 1 0 0
+    -- its second run writes the 7 that is there, then the 0 that its first run read
+    ∷ marks (W-43 ++ "02 01 00  03 01 00 00 00 00 07  04 01  ") 0 1 0 0
+    ∷ marks (W-43 ++ "02 01 00  03 01 00 00 00 00 00  04 01  ") 0 1 1 0
+    ∷ []
+
+-- ---- Request 6
+
+-- save 9 has read the sheet's 0
+abbrev reader : String
+reader = fresh ++ "01 09  02 09 00  "
+
+-- saves 0 and 1, each from its BEGIN to its APPLY: save 0 writes 1, save 1 writes 0
+abbrev away : String
+away = "01 00  02 00 00  03 00 00 00 00 00 01  04 00  05 00  06 00  07 00 00  "
+
+abbrev back : String
+back = "01 01  02 01 00  03 01 00 00 00 00 00  04 01  05 00  06 01  07 00 01  "
+
+-- saves 0 and 1 have both read 0; save 0 is carried out with 1, and save 1, failed by its X, is in its second run and has read 1
+abbrev second-reading : String
+second-reading =
+    fresh ++ "01 00  01 01  02 00 00  02 01 00  03 00 00 00 00 00 01  03 01 00 00 00 00 02  04 00  04 01  05 00  05 00  06 00  07 00 00  06 01  02 01 00  "
+
+abbrev pub unchanged : List Case
+unchanged =
+    -- save 1 stores the 0 that is there: save 9's older copy passes
+    case (reader ++ back ++ "04 09  05 00  06 09") (answers commits) "" "P 1 1 C\nP 9 1 C\nO 0 0 0\nT 12 2 0\n"
+    -- the content goes away and comes back: the WCT rose twice, and save 9's copy fails
+    ∷ case (reader ++ away ++ back ++ "04 09  05 00") (fails 9 0 counter-behind) "" "P 0 1 C\nP 1 1 C\nP 9 1 U\nO 0 0 2\nT 18 2 0\n"
+    ∷ case (reader ++ away ++ back ++ "04 09  05 00  06 09") (answers second-run) "" "P 0 1 C\nP 1 1 C\nP 9 2 U\nO 0 0 2\nT 19 2 0\n"
+    -- an unchanged content is written all the same: save 0's X fails save 1, which then runs again
+    ∷ case (fresh ++ "01 00  01 01  02 00 00  02 01 00  03 00 00 00 00 00 00  04 00  04 01  05 00  05 00") (fails 1 0 x-granted) "" "P 0 1 U\nP 1 1 U\nO 0 0 0\nT 9 0 0\n"
+    ∷ case (fresh ++ "01 00  01 01  02 00 00  02 01 00  03 00 00 00 00 00 00  04 00  04 01  05 00  05 00  06 00  07 00 00  06 01") (answers second-run) "" "P 0 1 C\nP 1 2 U\nO 0 0 0\nT 12 1 0\n"
+    -- the content there counts, not the one that the first run read: the second run stores 1 on 1, then 0 on 1
+    ∷ case (second-reading ++ "03 01 00 00 00 00 01  04 01  07 00 01") (answers accepted) "" "P 0 1 C\nP 1 2 C\nO 0 1 1\nT 17 1 1\n"
+    ∷ case (second-reading ++ "03 01 00 00 00 00 00  04 01  07 00 01") (answers accepted) "" "P 0 1 C\nP 1 2 C\nO 0 0 2\nT 17 1 1\n"
+    -- the content last written counts: save 2 writes 9, then the 0 that is there
+    ∷ case (fresh ++ away ++ back ++ "01 02  02 02 00  03 02 00 00 00 00 09  03 02 00 00 00 00 00  04 02  05 00  06 02  07 00 02") (answers accepted) "" "P 0 1 C\nP 1 1 C\nP 2 1 C\nO 0 0 2\nT 22 3 0\n"
     ∷ []

@@ -8,6 +8,7 @@ pub mod Causes
 pub mod Counter
 pub mod Serial
 pub mod Demand3
+pub mod Changes
 pub mod Calls
 pub mod Writing
 pub mod Report

@@ -1,7 +1,8 @@
 -- What a session's commands work on: the nodes with their sheets and queues, the saves, the order, the tally.
 use Prim.Native.Nat.{ℕ, suc}
-use mathlib.Core.Bool.{Bool, true, false, _||_}
+use mathlib.Core.Bool.{Bool, true, false, _||_, cond}
 use mathlib.Core.List.{List, []}
+use lib.Dec.{eqb}
 use Rattle.rules.specs.Bytes.{Header}
 
 -- A sheet (document 01's term for an object): its content and its write counter, WCT. A save's own copy of it is a content with the WCT seen.
@@ -12,9 +13,10 @@ pub record Sheet : Type 0 where
 abbrev pub new-sheet : Sheet
 new-sheet = record { content = 0; wct = 0 }
 
--- A sheet that receives a content: the WCT rises by 1, also where the content was the same. APPLY and the serial run both store so.
+-- A sheet that receives a content: the WCT rises by 1, and "stays" where the content is "equal to the one there" (document 02 [6], which takes back
+-- document 01's "also where the content was the same"). APPLY and the serial run both store so.
 abbrev pub store : Sheet → ℕ → Sheet
-store s v = record { content = v; wct = suc (s .wct) }
+store s v = record { content = v; wct = cond (eqb v (s .content)) (s .wct) (suc (s .wct)) }
 
 -- The phases of a save (document 01's term for a transaction): unused; in its first run (document 01's term), submitted, in its
 -- second run; committed; dropped (document 01's term), which is by GIVE UP.

@@ -41,42 +41,42 @@ shared-slice-read-x c = let s = c .before .before .before .before .before .befor
 receives-requires : tie.Need-receives-requires Inv-loop μ-loop
 receives-requires c κs = search needs
 
-mul-pick : tie.Need-mul-pick Inv-loop μ-loop
-mul-pick c = let s = c .before .before .before .before .before .before .before .before .before .before in omega (arith, row-small (s .args .m) (s .pre .4) (s .pre .0 .sheets16))
+mul-v : tie.Need-mul-v Inv-loop μ-loop
+mul-v c = let s = c .before .before .before .before .before .before .before .before .before .before in omega (arith, row-small (s .args .m) (s .pre .4) (s .pre .0 .sheets16))
 
-add-pick : tie.Need-add-pick Inv-loop μ-loop
-add-pick c = let s = c .before .before .before .before .before .before .before .before .before .before in omega (arith, row-small (s .args .m) (s .pre .4) (s .pre .0 .sheets16), s .pre .0 .sheets16)
+add-v : tie.Need-add-v Inv-loop μ-loop
+add-v c = let s = c .before .before .before .before .before .before .before .before .before .before in omega (arith, row-small (s .args .m) (s .pre .4) (s .pre .0 .sheets16), s .pre .0 .sheets16)
 
-mul-pick-2 : tie.Need-mul-pick-2 Inv-loop μ-loop
-mul-pick-2 c = let s = c .before .before .before .before .before .before .before .before .before .before in omega (arith, row-small (s .args .m) (s .pre .4) (s .pre .0 .sheets16), s .pre .0 .sheets16)
+mul-v-2 : tie.Need-mul-v-2 Inv-loop μ-loop
+mul-v-2 c = let s = c .before .before .before .before .before .before .before .before .before .before in omega (arith, row-small (s .args .m) (s .pre .4) (s .pre .0 .sheets16), s .pre .0 .sheets16)
 
-shared-slice-read-pick : tie.Need-shared-slice-read-pick Inv-loop μ-loop
-shared-slice-read-pick c = let s = c .before .before .before .before .before .before .before .before .before .before .before in omega (arith, cell-in (s .args .m) (s .pre .4) (c .before .before .before .before .loop-test .taken), s .pre .1)
+shared-slice-read-v : tie.Need-shared-slice-read-v Inv-loop μ-loop
+shared-slice-read-v c = let s = c .before .before .before .before .before .before .before .before .before .before .before in omega (arith, cell-in (s .args .m) (s .pre .4) (c .before .before .before .before .loop-test .taken), s .pre .1)
 
-mul-pick-3 : tie.Need-mul-pick-3 Inv-loop μ-loop
-mul-pick-3 c = search needs
+mul-u : tie.Need-mul-u Inv-loop μ-loop
+mul-u c = search needs
 
-slice-read-pick : tie.Need-slice-read-pick Inv-loop μ-loop
-slice-read-pick c = let s = c .before .before .before .before .before .before .before .before .before .before .before .before in omega (arith, c .before .before .before .before .before .before .loop .inv .1 .size, s .pre .2)
-
-pick-requires : tie.Need-pick-requires Inv-loop μ-loop
-pick-requires c κs = search needs
+slice-read-u : tie.Need-slice-read-u Inv-loop μ-loop
+slice-read-u c = let s = c .before .before .before .before .before .before .before .before .before .before .before .before in omega (arith, c .before .before .before .before .before .before .loop .inv .1 .size, s .pre .2)
 
 add-c : tie.Need-add-c Inv-loop μ-loop
-add-c c = let s = c .before .before .before .before .before .before .before .before .before .before .before .before .before in omega (arith, s .pre .0 .sheets16)
+add-c c = let s = c .before .before .before .before .before .before .before .before .before .before .before .before in omega (arith, s .pre .0 .sheets16)
 
 mul-c : tie.Need-mul-c Inv-loop μ-loop
 mul-c c = search needs
 
 slice-read-c : tie.Need-slice-read-c Inv-loop μ-loop
-slice-read-c c = let s = c .before .before .before .before .before .before .before .before .before .before .before .before .before .before in omega (arith, c .before .before .before .before .before .before .before .before .loop .inv .1 .size, s .pre .2)
+slice-read-c c = let s = c .before .before .before .before .before .before .before .before .before .before .before .before .before in omega (arith, c .before .before .before .before .before .before .before .loop .inv .1 .size, s .pre .2)
 
 wct-mark-requires : tie.Need-wct-mark-requires Inv-loop μ-loop
 wct-mark-requires c κs = search needs
 
 add-c-2 : tie.Need-add-c-2 Inv-loop μ-loop
-add-c-2 c = let l = c .before .before .before .before .before .before .before .before .before .loop in
-    record { fits = can-rise (l .w) (l .inv .1) (c .before .before .before .before .before .before .before .before .loop-test .taken) (c .before .before .before .before .before .before .before .before .before .before .before .before .before .before .before .pre .3) (c .wct-mark .ensures .1) }
+add-c-2 c = let l = c .before .before .before .before .before .before .before .before .loop in
+    record { fits = can-rise (l .w) (l .inv .1) (c .before .before .before .before .before .before .before .loop-test .taken) (c .before .before .before .before .before .before .before .before .before .before .before .before .before .before .pre .3) (c .wct-mark .ensures .1) }
+
+pick-requires : tie.Need-pick-requires Inv-loop μ-loop
+pick-requires c κs = search needs
 
 mul-w : tie.Need-mul-w Inv-loop μ-loop
 mul-w c = search needs
@@ -105,7 +105,7 @@ loop-again c = let s = c .before .before .before .before .before .before .before
     let h = c .before .before .before .before .before .before .before .before .loop-test .taken in (
       omega arith,
       carry-on (l .w) (l .inv .1) h (s .pre .2) (c .before .before .before .before .before .before .before .owner .ensures) (c .before .before .before .before .before .before .before .before .before .before .before .phase .ensures) (row-get (byte-sizes (s .args .m)) (s .args .b .now) MARK (s .args .m) (s .args .t) (l .k) (c .before .before .before .before .before .before .before .before .before .before .marks .ensures) (cell-in (s .args .m) (s .pre .4) h))
-          (c .before .before .before .before .before .receives .ensures) (c .before .before .pick .ensures) (c .wct-mark .ensures .0),
+          (c .before .before .before .before .before .receives .ensures) (c .pick .ensures) (c .before .wct-mark .ensures .0),
     )
 
 same-length : tie.Need-same-length Inv-loop μ-loop
@@ -127,18 +127,18 @@ carry-out-spec =
     add-x
     shared-slice-read-x
     receives-requires
-    mul-pick
-    add-pick
-    mul-pick-2
-    shared-slice-read-pick
-    mul-pick-3
-    slice-read-pick
-    pick-requires
+    mul-v
+    add-v
+    mul-v-2
+    shared-slice-read-v
+    mul-u
+    slice-read-u
     add-c
     mul-c
     slice-read-c
     wct-mark-requires
     add-c-2
+    pick-requires
     mul-w
     slice-write-w
     add-w
