@@ -41,6 +41,14 @@ entry-of s l r t k v m f =
     o′ : {p : ℕ} → p < s .taken (s .header .owner k) → p < length (s .order)
     o′ o = omega (arith, v .places .bound (s .header .owner k))
 
+-- a save whose APPLY is accepted: it stands, is taken there, and is not carried out there
+pub applied-of : {P : Type 0} (s : State) (l : History) (r : ℕ → ℕ → Option ℕ) (n t : ℕ) → Inv s l r → check s (Apply n t) ≡ pass
+    → (Stands (s .order) (s .place) t → s .place t < s .taken n → l .applied n t ≡ false → P) → P
+applied-of s l r n t v e f =
+    any-at (s .header .sheets) (λ k. owns s n k && mem t (s .queue k)) (passed-asked (tests s (Apply n t)) e 11 .0)
+    (λ k h y. let z = eqb-true (s .header .owner k) n (and-l (owns s n k) (mem t (s .queue k)) y) in
+    entry-of s l r t k v (and-r (owns s n k) (mem t (s .queue k)) y) (λ st o _ a. f st (rw z at o) (rw z at a)))
+
 pub keeps : (s : State) (l : History) (r : ℕ → ℕ → Option ℕ) (c : Command) → Inv s l r → check s c ≡ pass
     → Inv (effect s c) (hear l c (says-again (answer s c))) (reads-after r c (answer s c))
 keeps s l r (Begin t) v e = let g = passed-asked (tests s (Begin t)) e in keeps-begin s l r t v (ltb-true t max-saves (g 4 .0)) (unused-is (s .phase t) (g 5 .0))
@@ -71,11 +79,7 @@ keeps s l r (Decide t) v e =
     bool (s .failed t)
     (λ f. rw f (keeps-decide-second s l r t v ht u (g 10 .0) (g 10 .1 .0)))
     (λ f. rw f (keeps-decide-commit s l r t v ht u (g 10 .0) (g 10 .1 .0) f))
-keeps s l r (Apply n t) v e =
-    let g = passed-asked (tests s (Apply n t)) e in
-    any-at (s .header .sheets) (λ k. owns s n k && mem t (s .queue k)) (g 11 .0)
-    (λ k h y. let z = eqb-true (s .header .owner k) n (and-l (owns s n k) (mem t (s .queue k)) y) in
-    entry-of s l r t k v (and-r (owns s n k) (mem t (s .queue k)) y) (λ st o _ f. keeps-apply s l r n t v (g 5 .0) st (rw z at o) (rw z at f)))
+keeps s l r (Apply n t) v e = applied-of s l r n t v e (keeps-apply s l r n t v (passed-asked (tests s (Apply n t)) e 5 .0))
 keeps s l r (GiveUp t) v e = let g = passed-asked (tests s (GiveUp t)) e in keeps-give-up s l r t v (ltb-true t max-saves (g 4 .0)) (g 5 .0)
 
 -- ---- New nodes

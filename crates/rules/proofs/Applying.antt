@@ -1,5 +1,5 @@
 -- APPLY keeps the invariant: the save that stores is the last of those that have, since a later X waits for it.
-use Prim.Native.Nat.{ℕ, suc, _≤_, _<_}
+use Prim.Native.Nat.{ℕ, _≤_, _<_}
 use mathlib.Core.Path.{_≡_, refl, sym, ap, _∙_}
 use mathlib.Core.Bool.{Bool, true, false, _&&_, and-false, and-true}
 use mathlib.Core.Option.{Option, some}
@@ -7,7 +7,7 @@ use native.Mathlib.Omega.{arith}
 use lib.ListN.{length}
 use borrow.Author.Tests.{eqb-true, eq-eqb, ne-eqb}
 use Rattle.rules.specs.Table.{upd2}
-use Rattle.rules.specs.State.{Sheet, store, State, is-committed, over, is-written, is-x}
+use Rattle.rules.specs.State.{store, State, is-committed, over, is-written, is-x}
 use Rattle.rules.specs.Steps.{owns, receives, apply-save}
 use Rattle.rules.specs.Serial.{History, carry-out}
 use Rattle.rules.proofs.Table.{bool, same?, cond-at, clash, upd2-at, upd2-same, upd2-other, and-l, and-r}

@@ -9,17 +9,16 @@ use lib.Dec.{eqb}
 use borrow.Author.Tests.{eqb-true, eq-eqb}
 use Rattle.rules.specs.Bytes.{Header, header, Command, Begin, Read, Write, Submit, Take, Decide, Apply, GiveUp}
 use Rattle.rules.specs.State.{Sheet, store, State, fresh, is-first, is-committed, is-written, claims, is-x}
-use Rattle.rules.specs.Steps.{mem, owns, tests, check, Checked, pass, refuse, receives, submit-save, decide-save, effect, accepted, answered, refused, step-by, run}
+use Rattle.rules.specs.Steps.{owns, check, Checked, pass, refuse, receives, submit-save, decide-save, effect, accepted, answered, refused, step-by, run}
 use Rattle.rules.specs.Serial.{History}
 use Rattle.rules.specs.Demand3.{after, told, first-answers, one-if-accepted, session-commands}
 use Rattle.rules.specs.Changes.{changes, commands-of, OnlyChanges, SessionChanges}
-use Rattle.rules.proofs.Table.{same?, clash, and-l, and-r, any-at}
-use Rattle.rules.proofs.Tests.{passed-asked}
+use Rattle.rules.proofs.Table.{same?, clash, and-l, and-r}
 use Rattle.rules.proofs.Storing.{store-adds}
 use Rattle.rules.proofs.Places.{at}
 use Rattle.rules.proofs.Invariant.{Stands, Sure, Inv}
 use Rattle.rules.proofs.Phases.{committed-locked, committed-placed, committed-closed, x-claims, written-copied, sheet-shown}
-use Rattle.rules.proofs.Accepted.{entry-of, always, run-accepts, run-refuses}
+use Rattle.rules.proofs.Accepted.{applied-of, always, run-accepts, run-refuses}
 use Rattle.rules.proofs.Serializable.{committed-sure}
 
 -- ---- One command
@@ -108,13 +107,6 @@ module _ (s : State) (l : History) (r : ℕ → ℕ → Option ℕ) (v : Inv s l
       ∙ ap (λ c. some (c .content)) (sym (sheet-shown s (l .applied) r (s .place t) k (v .copies) (v .values) (omega (arith, stands t done .0))
       (λ u o _ x. v .locks .settled t u k sure claimed o x) not-yet))
 
--- an accepted APPLY is the first there
-first-there : (s : State) (l : History) (r : ℕ → ℕ → Option ℕ) (n t : ℕ) → Inv s l r → check s (Apply n t) ≡ pass → l .applied n t ≡ false
-first-there s l r n t v e =
-    any-at (s .header .sheets) (λ k. owns s n k && mem t (s .queue k)) (passed-asked (tests s (Apply n t)) e 11 .0)
-    (λ k h y. let z = eqb-true (s .header .owner k) n (and-l (owns s n k) (mem t (s .queue k)) y) in
-    entry-of s l r t k v (and-r (owns s n k) (mem t (s .queue k)) y) (λ st o _ f. rw z at f))
-
 module _ (h : Header) (cs : List Command) (n t k : ℕ) where
   abbrev s : State
   s = after h cs
@@ -124,8 +116,9 @@ module _ (h : Header) (cs : List Command) (n t k : ℕ) where
 
   stored-by : (x : Checked) → check s (Apply n t) ≡ x → step-by x s (Apply n t) .result ≡ answered accepted → receives s n t k ≡ true
       → first-answers h cs t k ≡ some (s .sheet k .content)
-  stored-by pass e _ = read-there s (told h cs) (first-answers h cs) (always h cs) n t k (first-there s (told h cs) (first-answers h cs) n t (always h cs) e)
-  stored-by (refuse x) e q = absurd (not-answered q)
+  stored-by pass e _ g = let v = always h cs in
+      applied-of s (told h cs) (first-answers h cs) n t v e (λ _ _ f. read-there s (told h cs) (first-answers h cs) v n t k f g)
+  stored-by (refuse x) e q g = absurd (not-answered q)
 
 pub only-changes : (h : Header) (cs : List Command) → OnlyChanges h cs
 unfolding fresh
