@@ -274,9 +274,9 @@ static inline struct end run(struct state *s, const uint8_t *session, size_t len
             }
             if (t->phase == COMMITTED)
                 for (uint64_t left = ours & t->written; left; left &= left - 1) {
-                    uint32_t k = (uint32_t)__builtin_ctzll(left);
-                    s->content[k] = s->copy[number_t][k];
-                    s->wct[k]++;
+                    uint32_t k = (uint32_t)__builtin_ctzll(left), v = s->copy[number_t][k];
+                    s->wct[k] += s->content[k] != v;
+                    s->content[k] = v;
                 }
             kind = ACCEPTED, value = 0;
             break;

@@ -17,10 +17,10 @@ pub struct Counts {
     /// Of a committed save, of a dropped one.
     applies: [u64; 2],
     ones: u64,
-    same_contents: u64,
     /// Marks of 0 at a sheet of the node; where it is X in the claim and was not written in the last run
-    /// of a committed save; where a dropped save had written it.
-    zeros: [u64; 3],
+    /// of a committed save; where a dropped save had written it; where a committed one stored the content
+    /// that was there.
+    zeros: [u64; 4],
     /// Marks of 0 at another node's sheet that a committed save wrote.
     elsewhere: u64,
 }
@@ -37,10 +37,10 @@ impl Counts {
             let x = save.claim.get(&number) == Some(&Lock::X);
             let (here, written, zero) = (sheet.owner == node, copy.is_some(), marks[number] == 0);
             self.ones += !zero as u64;
-            self.same_contents += (here && committed && same) as u64;
             self.zeros[0] += (here && zero) as u64;
             self.zeros[1] += (here && zero && committed && x && !written) as u64;
             self.zeros[2] += (here && zero && !committed && written) as u64;
+            self.zeros[3] += (here && zero && committed && same) as u64;
             self.elsewhere += (!here && zero && committed && written) as u64;
         }
     }
@@ -49,8 +49,8 @@ impl Counts {
     pub fn close(&self) -> bool {
         println!(
             "counters: {} APPLYs compared, of a committed save {} of a dropped one {}; marks of 1 {}, \
-             of 0 at a sheet of the node {} (X, committed and not written {} written and dropped {}), \
-             of 0 at another node's that a committed save wrote {}; the same content stored {}",
+             of 0 at a sheet of the node {} (X, committed and not written {} written and dropped {} \
+             the same content stored {}), of 0 at another node's that a committed save wrote {}",
             self.applies[0] + self.applies[1],
             self.applies[0],
             self.applies[1],
@@ -58,10 +58,10 @@ impl Counts {
             self.zeros[0],
             self.zeros[1],
             self.zeros[2],
+            self.zeros[3],
             self.elsewhere,
-            self.same_contents,
         );
-        let single = [self.ones, self.elsewhere, self.same_contents];
+        let single = [self.ones, self.elsewhere];
         [&self.applies[..], &self.zeros, &single].concat().contains(&0)
     }
 }

@@ -1,6 +1,6 @@
 //! Compares the engine, linked as a static library, with the model on seeded sessions, each with a
 //! list of steps to be written and with neighbouring steps swapped, and checks demand 3, the causes of
-//! TAKE's answers and the counters that APPLY raises on each.
+//! TAKE's answers, the counters that APPLY raises and the saves that saved nothing on each.
 //!
 //! `fuzz --sessions N --seed S [--prefixes] [--lengths] [--states]`
 //!
@@ -9,7 +9,7 @@
 //! state that small sessions reach. The end status is 1 on a difference, on a
 //! broken demand, and where a run of 1,000 sessions or more has left out a refusal, or one of
 //! 20,000 or more a command in some phase of its save, an outcome of a writing or a reading, a kind
-//! of neighbours, of causes or of marks.
+//! of neighbours, of causes, of marks or of saves that saved nothing.
 
 use model::command::{Command, Header, MOST_BYTES};
 use model::demand3::{self, Met};
@@ -28,6 +28,7 @@ mod causes;
 mod counters;
 mod engine;
 mod neighbours;
+mod unchanged;
 mod writing;
 
 /// What stands on both sides of a buffer, to see a write outside it.
@@ -42,7 +43,7 @@ const CELLS: usize = 7 * Phase::ALL.len();
 
 /// From so many sessions on, a refusal or a kind of commit that never occurred is a failure; from so
 /// many, a command that never came in some phase of its save, an outcome of a writing or reading, a
-/// kind of neighbours, of causes or of marks.
+/// kind of neighbours, of causes, of marks or of saves that saved nothing.
 const ALL_REFUSALS: u64 = 1_000;
 const ALL_CELLS: u64 = 20_000;
 
@@ -65,6 +66,7 @@ struct Counts {
     met: Met,
     causes: causes::Counts,
     counters: counters::Counts,
+    unchanged: unchanged::Counts,
     neighbours: neighbours::Counts,
     writing: writing::Counts,
 }
@@ -142,6 +144,7 @@ fn one_session(seed: u64, prefixes: bool, counts: &mut Counts) -> Result<(), Str
     let (run, met) = demand3::check(&session, &mut prng)
         .map_err(|trouble| format!("demand 3 in the model: {trouble}\n{}", shown(&session)))?;
     causes::one_session(&session, &run, &mut counts.causes)?;
+    unchanged::one_session(&session, &run, &mut counts.unchanged)?;
     let mut compared = compare(&session, &run, &buffer, &mut prng);
     if compared.is_ok() && (prefixes || prng.one_in(4)) {
         compared =
@@ -192,6 +195,7 @@ fn every_state(header: &Header, saves: usize) -> Result<(), String> {
             demand3::check(session, &mut prng).map_err(|trouble| {
                 format!("demand 3 in the model: {trouble}\n{}", shown(session))
             })?;
+            unchanged::one_session(session, &run, &mut Default::default())?;
             pairs_tried += neighbours::in_state(session, &run, &pairs)?;
         }
         compare(session, &run, &buffer, &mut prng)?;
@@ -366,10 +370,13 @@ fn count(session: &[u8], run: &Session, buffer: &[u8], met: Met, counts: &mut Co
 
 /// Prints the counts; says whether something never occurred that so many sessions have.
 fn close(counts: &Counts) -> bool {
-    let cause_left_out = counts.causes.close();
-    let mark_left_out = counts.counters.close();
-    let neighbours_left_out = counts.neighbours.close();
-    let outcome_left_out = counts.writing.close();
+    let left_out = [
+        counts.causes.close(),
+        counts.counters.close(),
+        counts.unchanged.close(),
+        counts.neighbours.close(),
+        counts.writing.close(),
+    ];
     println!(
         "met: {} prefixes, {} reads and {} stores against the serial run, {} states with entries, \
          {} tail steps (nearest to the bound: {}), TAKE valid {} invalid {}, second runs {} \
@@ -404,8 +411,7 @@ fn close(counts: &Counts) -> bool {
     let refusal_left_out = counts.refusals[1..].contains(&0);
     let commit_left_out = counts.first_commits == 0 || counts.second_commits == 0;
     let cell_left_out = counts.cells.len() < CELLS;
-    let kind_left_out =
-        cell_left_out || outcome_left_out || neighbours_left_out || cause_left_out || mark_left_out;
+    let kind_left_out = cell_left_out || left_out.contains(&true);
     counts.sessions >= ALL_REFUSALS && (refusal_left_out || commit_left_out)
         || counts.sessions >= ALL_CELLS && kind_left_out
 }

@@ -12,7 +12,7 @@ use crate::session::Session;
 pub const W: &str = "02 02 00 01  01 00  01 01  02 00 00  02 01 00  03 00 00 00 00 00 07 \
     03 01 00 00 00 00 09  04 00  04 01  05 00  05 00  06 00  07 00 00  06 01  02 01 00 \
     03 01 00 00 00 00 09  04 01  07 00 01";
-const W_REPORT: &str = "P 0 1 C\nP 1 2 C\nO 0 9 2\nO 1 0 0\nT 17 1 1\n";
+pub const W_REPORT: &str = "P 0 1 C\nP 1 2 C\nO 0 9 2\nO 1 0 0\nT 17 1 1\n";
 
 pub fn bytes(hexadecimal: &str) -> Vec<u8> {
     hexadecimal
@@ -388,9 +388,13 @@ fn a_take_goes_on_after_a_failing_sheet() {
 }
 
 #[test]
-fn an_unchanged_write_counts() {
-    let session = fresh("01 00 02 00 00 03 00 00 00 00 00 00 04 00 05 00 06 00 07 00 00");
-    assert_eq!(printed(&session), "P 0 1 C\nO 0 0 1\nT 7 1 0\n");
+fn an_unchanged_write_counts_as_written() {
+    let taken = fresh("01 00 02 00 00 03 00 00 00 00 00 00 04 00 05 00");
+    assert_eq!(end_of(&taken).saves[0].claim[&0], Lock::X);
+    assert_eq!(end_of(&taken).sheets[0].queue, [Entry { save: 0, lock: Lock::X }]);
+    // Only the counter stays.
+    let session = [&taken[..], &bytes("06 00 07 00 00")].concat();
+    assert_eq!(printed(&session), "P 0 1 C\nO 0 0 0\nT 7 1 0\n");
 }
 
 #[test]

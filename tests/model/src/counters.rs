@@ -5,13 +5,14 @@ use crate::command::Command;
 use crate::engine::{Engine, Phase};
 use crate::session::Session;
 
-/// The mark of a sheet at an accepted APPLY: 1 where the sheet is the node's and was written in the last
-/// run of a committed save, also where the content was the same. For a dropped save nothing is written.
+/// The mark of a sheet at an accepted APPLY: 1 where the sheet is the node's, was written in the last run of
+/// a committed save, and receives another content than it has. For a dropped save nothing is written.
 fn mark(state: &Engine, node: usize, save: usize, sheet: usize) -> u32 {
     let committed = state.saves[save].phase == Phase::Committed;
     let of_node = state.sheets[sheet].owner == node;
-    let written = state.saves[save].copies.get(&sheet).is_some_and(|copy| copy.written);
-    (committed && of_node && written) as u32
+    let written = state.saves[save].copies.get(&sheet).filter(|copy| copy.written);
+    let another = written.is_some_and(|copy| copy.content != state.sheets[sheet].content);
+    (committed && of_node && another) as u32
 }
 
 /// The marks of all sheets at a step that is accepted in this state; no step but APPLY has a 1.

@@ -68,7 +68,7 @@ fn a_sheet_written_in_the_first_run_only_has_no_mark() {
 }
 
 #[test]
-fn a_content_that_was_the_same_has_a_mark() {
+fn a_content_that_was_the_same_has_no_mark() {
     // Save 0 writes the 0 that is there, saves 1 and 2 both write 7.
     let save = |save: &str, content: &str| {
         format!(
@@ -76,9 +76,9 @@ fn a_content_that_was_the_same_has_a_mark() {
              04 {save} 05 00 06 {save} 07 00 {save} "
         )
     };
-    worked(&fresh(&save("00", "00")), &[&[1]], &[1]);
+    worked(&fresh(&save("00", "00")), &[&[0]], &[0]);
     let three = save("00", "00") + &save("01", "07") + &save("02", "07");
-    worked(&fresh(&three), &[&[1], &[1], &[1]], &[3]);
+    worked(&fresh(&three), &[&[0], &[1], &[0]], &[1]);
 }
 
 #[test]
@@ -93,19 +93,21 @@ fn the_equation_is_one_of_all_sheets() {
 
 #[test]
 fn the_check_sees_a_wrong_sum_and_a_counter_raised_elsewhere() {
-    let run = Session::run(&bytes(W));
+    // A save begins between save 0's DECIDE and its APPLY.
+    let session = w_until(38, "01 02 07 00 00");
+    let run = Session::run(&session);
     let checked = |place: usize, command: Command| {
         let mut wrong = run.clone();
         wrong.steps[place].command = command;
-        check(&bytes(W), &wrong)
+        check(&session, &wrong)
     };
     let carried_out = |node| Command::Apply { node, save: 0 };
-    assert_eq!(checked(11, carried_out(0)), Ok(vec![(11, vec![1, 0]), (16, vec![1, 0])]));
-    // Node 1 has no mark to add, and after step 12 no counter has risen.
-    for (place, node) in [(11, 1), (12, 0)] {
+    assert_eq!(checked(12, carried_out(0)), Ok(vec![(12, vec![1, 0])]));
+    // Node 1 has no mark to add, and after step 11 no counter has risen.
+    for (place, node) in [(12, 1), (11, 0)] {
         assert!(checked(place, carried_out(node)).unwrap_err().starts_with("sum"));
     }
-    assert!(checked(11, Command::Take { node: 0 }).unwrap_err().starts_with("other step"));
+    assert!(checked(12, Command::Take { node: 0 }).unwrap_err().starts_with("other step"));
 }
 
 #[test]
@@ -127,9 +129,11 @@ fn counters_on_many_sessions() {
             }
         }
     }
-    // Of a committed save, at a sheet of the node, with a copy that is written; and the mark.
+    // Of a committed save, at a sheet of the node, with a copy that is written; and the mark, which is 0
+    // there too where the content was the same.
     let kinds = [
         (true, true, Some(true), 1),
+        (true, true, Some(true), 0),
         (true, true, Some(false), 0),
         (true, true, None, 0),
         (true, false, Some(true), 0),

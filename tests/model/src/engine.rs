@@ -352,8 +352,9 @@ impl Engine {
             }
             if outcome.phase == Phase::Committed {
                 if let Some(copy) = outcome.copies.get(&number).filter(|copy| copy.written) {
+                    // A content that is stored again is no modification.
+                    sheet.wct += (copy.content != sheet.content) as u32;
                     sheet.content = copy.content;
-                    sheet.wct += 1;
                 }
             }
             sheet.queue.retain(|entry| entry.save != save);

@@ -64,6 +64,9 @@ const MOODS: [[usize; 8]; 6] = [
     [6, 40, 26, 5, 16, 14, 14, 1],
 ];
 
+/// A save is carried through from its BEGIN to its APPLY once in so many commands.
+const WHOLE: usize = 32;
+
 /// A save runs twice at most, so only READs and WRITEs can fill a long session.
 const LONG: [usize; 8] = [3, 400, 300, 4, 24, 14, 14, 1];
 
@@ -106,19 +109,25 @@ fn plan(prng: &mut Prng) -> Plan {
     }
 }
 
+fn mood(prng: &mut Prng, saves: usize) -> [usize; 8] {
+    let mut weights = prng.pick(&MOODS);
+    if saves > 16 {
+        // A crowd must come to its SUBMITs before the session ends.
+        weights[0] *= 3;
+        weights[3] *= 3;
+    }
+    weights
+}
+
 pub fn guided(prng: &mut Prng) -> Vec<u8> {
     let mut plan = plan(prng);
     let mut engine = Engine::new(&plan.header);
     let mut session = plan.header.bytes();
+    let mut whole = Vec::new();
     let mut in_vain = 0;
     while session.len() < plan.length && in_vain < 400 {
         if plan.moods && prng.one_in(24) {
-            plan.weights = prng.pick(&MOODS);
-            if plan.saves > 16 {
-                // A crowd must come to its SUBMITs before the session ends.
-                plan.weights[0] *= 3;
-                plan.weights[3] *= 3;
-            }
+            plan.weights = mood(prng, plan.saves);
         }
         if let Some((number, from)) = plan.wanted {
             if session.len() >= from && prng.one_in(4) {
@@ -129,7 +138,10 @@ pub fn guided(prng: &mut Prng) -> Vec<u8> {
                 }
             }
         }
-        let command = candidate(prng, &plan, &engine);
+        if plan.moods && whole.is_empty() && prng.one_in(WHOLE) {
+            whole = whole_save(prng, &plan, &engine);
+        }
+        let command = whole.pop().unwrap_or_else(|| candidate(prng, &plan, &engine));
         let bytes = command.bytes();
         if session.len() + bytes.len() > MOST_BYTES || ends_too_early(&plan, &engine, command) {
             in_vain += 1;
@@ -148,6 +160,21 @@ pub fn guided(prng: &mut Prng) -> Vec<u8> {
         }
     }
     session
+}
+
+/// The steps of a save that is carried through at one sheet, the last one first: what others have read, or will
+/// read, changes beside them, or is stored again.
+fn whole_save(prng: &mut Prng, plan: &Plan, engine: &Engine) -> Vec<Command> {
+    let save = save_in(prng, plan, engine, &[Phase::Unused]);
+    let sheet = prng.below(plan.hot);
+    let node = plan.header.owner[sheet];
+    let content = content_for(prng, engine, sheet);
+    let behind = engine.order.len() - engine.taken[node];
+    let mut steps = vec![Command::Apply { node, save }, Command::Decide { save }];
+    steps.extend(vec![Command::Take { node }; behind + 1]);
+    steps.extend([Command::Submit { save }, Command::Write { save, sheet, content }]);
+    steps.extend([Command::Read { save, sheet }, Command::Begin { save }]);
+    steps
 }
 
 /// A long session needs a running save to its end, or nothing could fill it.
@@ -252,6 +279,22 @@ fn content(prng: &mut Prng) -> u32 {
     }
 }
 
+/// Mostly any content; else the one that is there, the one there but for a bit, or one that is not there and
+/// that a save which is not over has a copy of, so that a content comes back to its readers.
+fn content_for(prng: &mut Prng, engine: &Engine, sheet: usize) -> u32 {
+    let there = engine.sheets[sheet].content;
+    let running = engine.saves.iter().filter(|save| save.phase < Phase::Committed);
+    let copies = running.filter_map(|save| save.copies.get(&sheet));
+    let others: Vec<u32> =
+        copies.map(|copy| copy.content).filter(|&content| content != there).collect();
+    match prng.below(16) {
+        0..=1 => there,
+        2 => there ^ 1 << prng.below(32),
+        3..=7 if !others.is_empty() => prng.pick(&others),
+        _ => content(prng),
+    }
+}
+
 /// A command of a weighted kind, for a save in a phase that allows it where there is one.
 fn candidate(prng: &mut Prng, plan: &Plan, engine: &Engine) -> Command {
     let total: usize = plan.weights.iter().sum();
@@ -274,7 +317,7 @@ fn candidate(prng: &mut Prng, plan: &Plan, engine: &Engine) -> Command {
             let save = save_in(prng, plan, engine, &running);
             let copies: Vec<usize> = engine.saves[save].copies.keys().copied().collect();
             let sheet = sheet_of(prng, plan, &copies);
-            Command::Write { save, sheet, content: content(prng) }
+            Command::Write { save, sheet, content: content_for(prng, engine, sheet) }
         }
         3 => {
             // Saves without copies have empty claims: a few of them are enough.

@@ -17,6 +17,7 @@ pub mod report;
 pub mod serial;
 pub mod session;
 pub mod states;
+pub mod unchanged;
 pub mod writing;
 
 #[cfg(test)]
@@ -27,5 +28,7 @@ mod causes_cases;
 mod counters_cases;
 #[cfg(test)]
 mod neighbours_cases;
+#[cfg(test)]
+mod unchanged_cases;
 #[cfg(test)]
 mod writing_cases;

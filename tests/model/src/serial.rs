@@ -85,7 +85,8 @@ pub fn serial_run(header: &Header, fed: &[Fed]) -> Serial {
         }
         for (sheet, content) in written.into_iter().enumerate() {
             if let Some(content) = content {
-                store[sheet] = (content, store[sheet].1 + 1);
+                let (there, wct) = store[sheet];
+                store[sheet] = (content, wct + (content != there) as u32);
             }
         }
     }

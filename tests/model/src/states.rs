@@ -44,7 +44,8 @@ fn without_tally(engine: &Engine) -> Engine {
     Engine { tally: Tally::default(), ..engine.clone() }
 }
 
-/// Each save writes a content of its own, so that no two writers can be mistaken for each other.
+/// Each save writes a content of its own, so that no two writers can be mistaken for each other; save 0 writes
+/// the 0 of the start too, which changes nothing, or comes back.
 fn alphabet(header: &Header, saves: usize) -> Vec<Command> {
     let mut all = Vec::new();
     for save in 0..saves {
@@ -52,6 +53,9 @@ fn alphabet(header: &Header, saves: usize) -> Vec<Command> {
         for sheet in 0..header.sheets() {
             all.push(Command::Read { save, sheet });
             all.push(Command::Write { save, sheet, content: 1 + save as u32 });
+            if save == 0 {
+                all.push(Command::Write { save, sheet, content: 0 });
+            }
         }
         all.push(Command::Submit { save });
         all.push(Command::Decide { save });

@@ -1,0 +1,191 @@
+//! Saves that saved nothing: a content that is stored again is no modification. So a sheet's WCT counts how
+//! often its content changed, and a copy with the sheet's own WCT was read from the content that is there;
+//! but an X stands wherever there was a WRITE, whatever it wrote.
+
+use crate::command::{Command, Header, MOST_SAVES};
+use crate::engine::{Answer, Cause, Engine, Entry, Lock, Phase, Rule, Sheet, Verdict};
+use crate::session::{Session, Step};
+use std::collections::{BTreeMap, BTreeSet};
+
+/// How often the words had something to say.
+#[derive(Clone, Copy, Debug, Default, PartialEq, Eq)]
+pub struct Met {
+    /// Contents stored that were there already.
+    pub same: u64,
+    /// Readers from before such a store whom a TAKE then did not fail at that sheet.
+    pub passed: u64,
+    /// Readers of a content that went away and came back, whom the counter then failed.
+    pub came_back: u64,
+    /// Saves that failed by nothing but the X of a save that stores the content that is there.
+    pub failed_by_x: u64,
+}
+
+impl Met {
+    pub fn add(&mut self, other: Met) {
+        self.same += other.same;
+        self.passed += other.passed;
+        self.came_back += other.came_back;
+        self.failed_by_x += other.failed_by_x;
+    }
+
+    pub fn counts(&self) -> [u64; 4] {
+        [self.same, self.passed, self.came_back, self.failed_by_x]
+    }
+}
+
+/// The first READ of a sheet in the present run of a save.
+struct Reading {
+    answered: u32,
+    /// Was the content that is there stored again since?
+    stored_again: bool,
+}
+
+/// What the steps of a session have done up to a state, told without its counters and copies.
+pub struct Watch {
+    contents: Vec<u32>,
+    /// After how many steps each sheet's content was another than before.
+    changes: Vec<u32>,
+    /// By save and sheet.
+    readings: Vec<BTreeMap<usize, Reading>>,
+    /// The sheets that each save has written in its first run.
+    written: Vec<BTreeSet<usize>>,
+    pub met: Met,
+}
+
+impl Watch {
+    pub fn new(header: &Header) -> Watch {
+        Watch {
+            contents: vec![0; header.sheets()],
+            changes: vec![0; header.sheets()],
+            readings: (0..MOST_SAVES).map(|_| BTreeMap::new()).collect(),
+            written: vec![BTreeSet::new(); MOST_SAVES],
+            met: Met::default(),
+        }
+    }
+
+    /// Checks the state that the steps have led to.
+    pub fn check_state(&mut self, state: &Engine) -> Result<(), String> {
+        for (number, sheet) in state.sheets.iter().enumerate() {
+            self.changes[number] += (sheet.content != self.contents[number]) as u32;
+            self.contents[number] = sheet.content;
+            self.check_sheet(number, sheet)?;
+        }
+        for save in 0..MOST_SAVES {
+            self.check_reader(state, save)?;
+        }
+        Ok(())
+    }
+
+    fn check_sheet(&self, number: usize, sheet: &Sheet) -> Result<(), String> {
+        let changes = self.changes[number];
+        if sheet.wct != changes {
+            return Err(format!("count: sheet {number} has {} for {changes} changes", sheet.wct));
+        }
+        let wrong = |entry: &&_| is_x(entry) != self.written[entry.save].contains(&number);
+        match sheet.queue.iter().find(wrong) {
+            Some(entry) => Err(format!("entry: {entry:?} at sheet {number}")),
+            None => Ok(()),
+        }
+    }
+
+    /// No copy has seen more than the sheet's WCT, and one that has seen as much is as good as a new one.
+    fn check_reader(&self, state: &Engine, save: usize) -> Result<(), String> {
+        for (number, copy) in &state.saves[save].copies {
+            let sheet = &state.sheets[*number];
+            let (seen, wct, content) = (copy.wct_seen, sheet.wct, sheet.content);
+            let answered = self.readings[save].get(number).map(|reading| reading.answered);
+            if seen > wct {
+                return Err(format!("ahead: save {save} has seen {seen} of {wct} at {number}"));
+            }
+            if seen == wct && answered != Some(content) {
+                return Err(format!(
+                    "reader: save {save} has read {answered:?} at {number}, where {content} stands"
+                ));
+            }
+        }
+        Ok(())
+    }
+
+    /// Takes note of the step that is accepted next in this state.
+    fn note(&mut self, state: &Engine, step: &Step) {
+        match (step.command, step.answer) {
+            (Command::Begin { save }, _) | (Command::Decide { save }, Answer::SecondRun) => {
+                self.readings[save].clear();
+            }
+            (Command::Read { save, sheet }, Answer::Content(answered)) => {
+                let first = Reading { answered, stored_again: false };
+                self.readings[save].entry(sheet).or_insert(first);
+            }
+            (Command::Write { save, sheet, .. }, _) => {
+                if state.saves[save].phase == Phase::FirstRun {
+                    self.written[save].insert(sheet);
+                }
+            }
+            (Command::Apply { node, save }, _) => self.note_apply(state, node, save),
+            (Command::Take { node }, Answer::Taken { save, verdict }) => {
+                self.note_take(state, node, save, verdict);
+            }
+            _ => {}
+        }
+    }
+
+    fn note_apply(&mut self, state: &Engine, node: usize, save: usize) {
+        for (number, sheet) in state.sheets.iter().enumerate() {
+            if sheet.owner == node && stores_the_same(state, save, number) {
+                self.met.same += 1;
+                for reading in self.readings.iter_mut().filter_map(|own| own.get_mut(&number)) {
+                    reading.stored_again = true;
+                }
+            }
+        }
+    }
+
+    fn note_take(&mut self, state: &Engine, node: usize, save: usize, verdict: Verdict) {
+        let failed = match verdict {
+            Verdict::Valid => None,
+            Verdict::Invalid(cause) => Some(cause),
+        };
+        for (&number, reading) in &self.readings[save] {
+            // The cause is the first: below its sheet there is none.
+            let valid = failed.is_none_or(|cause| number < cause.sheet);
+            let here = state.sheets[number].owner == node;
+            self.met.passed += (here && valid && reading.stored_again) as u64;
+        }
+        let Some(Cause { sheet, rule }) = failed else { return };
+        if rule == Rule::CounterBehind {
+            let answered = self.readings[save].get(&sheet).map(|reading| reading.answered);
+            self.met.came_back += (answered == Some(state.sheets[sheet].content)) as u64;
+        } else {
+            let mut x = state.sheets[sheet].queue.iter().filter(is_x);
+            let only = x.next().filter(|_| x.next().is_none());
+            let saved_nothing = only.is_some_and(|x| stores_the_same(state, x.save, sheet));
+            self.met.failed_by_x += saved_nothing as u64;
+        }
+    }
+}
+
+fn is_x(entry: &&Entry) -> bool {
+    entry.lock == Lock::X
+}
+
+/// Is the save committed, and has it the content that is there to store to the sheet?
+fn stores_the_same(state: &Engine, save: usize, sheet: usize) -> bool {
+    let copy = state.saves[save].copies.get(&sheet).filter(|copy| copy.written);
+    let same = copy.is_some_and(|copy| copy.content == state.sheets[sheet].content);
+    state.saves[save].phase == Phase::Committed && same
+}
+
+/// Checks each state of a session, of which `run` is the run.
+pub fn check(bytes: &[u8], run: &Session) -> Result<Met, String> {
+    let Some((header, _)) = &run.started else { return Ok(Met::default()) };
+    let mut watch = Watch::new(header);
+    let mut steps = run.steps.iter();
+    let mut checked = Ok(());
+    Session::run_watched(bytes, |_, state| {
+        if checked.is_ok() {
+            checked = watch.check_state(state);
+            steps.next().into_iter().for_each(|step| watch.note(state, step));
+        }
+    });
+    checked.map(|()| watch.met)
+}
