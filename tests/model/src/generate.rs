@@ -162,8 +162,8 @@ pub fn guided(prng: &mut Prng) -> Vec<u8> {
     session
 }
 
-/// The steps of a save that is carried through at one sheet, the last one first: what others have read, or will
-/// read, changes beside them, or is stored again.
+/// The steps of a save that is carried through at one sheet, the last one first: what others have read
+/// changes beside them, or is stored again.
 fn whole_save(prng: &mut Prng, plan: &Plan, engine: &Engine) -> Vec<Command> {
     let save = save_in(prng, plan, engine, &[Phase::Unused]);
     let sheet = prng.below(plan.hot);
@@ -279,8 +279,8 @@ fn content(prng: &mut Prng) -> u32 {
     }
 }
 
-/// Mostly any content; else the one that is there, the one there but for a bit, or one that is not there and
-/// that a save which is not over has a copy of, so that a content comes back to its readers.
+/// Mostly any content; else the one that is there, the one there but for a bit, or another that a save
+/// which is not over has a copy of, so that a content comes back to its readers.
 fn content_for(prng: &mut Prng, engine: &Engine, sheet: usize) -> u32 {
     let there = engine.sheets[sheet].content;
     let running = engine.saves.iter().filter(|save| save.phase < Phase::Committed);

@@ -135,7 +135,7 @@ fn the_longest_session_takes_no_step_more() {
 fn neighbours_on_many_sessions() {
     let mut prng = Prng::new(3);
     let (mut kinds, mut swaps) = (BTreeSet::new(), BTreeSet::new());
-    for _ in 0..600 {
+    for _ in 0..1_000 {
         let session = generate::input(&mut prng).session;
         let run = Session::run(&session);
         let checked = check(&session, &run, &mut prng).expect("neighbours");

@@ -44,8 +44,8 @@ fn without_tally(engine: &Engine) -> Engine {
     Engine { tally: Tally::default(), ..engine.clone() }
 }
 
-/// Each save writes a content of its own, so that no two writers can be mistaken for each other; save 0 writes
-/// the 0 of the start too, which changes nothing, or comes back.
+/// Each save writes a content of its own, so that no two writers can be mistaken for each other; save 0
+/// writes the 0 of the start too, which changes nothing or comes back.
 fn alphabet(header: &Header, saves: usize) -> Vec<Command> {
     let mut all = Vec::new();
     for save in 0..saves {

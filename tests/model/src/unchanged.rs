@@ -16,7 +16,7 @@ pub struct Met {
     pub passed: u64,
     /// Readers of a content that went away and came back, whom the counter then failed.
     pub came_back: u64,
-    /// Saves that failed by nothing but the X of a save that stores the content that is there.
+    /// Saves that nothing failed at their cause's sheet but the X of one that stores the content there.
     pub failed_by_x: u64,
 }
 
@@ -116,10 +116,10 @@ impl Watch {
                 let first = Reading { answered, stored_again: false };
                 self.readings[save].entry(sheet).or_insert(first);
             }
-            (Command::Write { save, sheet, .. }, _) => {
-                if state.saves[save].phase == Phase::FirstRun {
-                    self.written[save].insert(sheet);
-                }
+            (Command::Write { save, sheet, .. }, _)
+                if state.saves[save].phase == Phase::FirstRun =>
+            {
+                self.written[save].insert(sheet);
             }
             (Command::Apply { node, save }, _) => self.note_apply(state, node, save),
             (Command::Take { node }, Answer::Taken { save, verdict }) => {
@@ -158,8 +158,9 @@ impl Watch {
         } else {
             let mut x = state.sheets[sheet].queue.iter().filter(is_x);
             let only = x.next().filter(|_| x.next().is_none());
-            let saved_nothing = only.is_some_and(|x| stores_the_same(state, x.save, sheet));
-            self.met.failed_by_x += saved_nothing as u64;
+            let saves_nothing = only.is_some_and(|x| stores_the_same(state, x.save, sheet));
+            let behind = state.saves[save].copies[&sheet].wct_seen < state.sheets[sheet].wct;
+            self.met.failed_by_x += (saves_nothing && !behind) as u64;
         }
     }
 }
