@@ -1,6 +1,7 @@
 //! Saves that saved nothing: a content that is stored again is no modification. So a sheet's WCT counts how
 //! often its content changed, and a copy with the sheet's own WCT was read from the content that is there;
-//! but an X stands wherever there was a WRITE, whatever it wrote.
+//! where an APPLY stores, that is what the save's last run has read; but an X stands wherever there was a
+//! WRITE, whatever it wrote.
 
 use crate::command::{Command, Header, MOST_SAVES};
 use crate::engine::{Answer, Cause, Engine, Entry, Lock, Phase, Rule, Sheet, Verdict};
@@ -107,7 +108,7 @@ impl Watch {
     }
 
     /// Takes note of the step that is accepted next in this state.
-    fn note(&mut self, state: &Engine, step: &Step) {
+    fn note(&mut self, state: &Engine, step: &Step) -> Result<(), String> {
         match (step.command, step.answer) {
             (Command::Begin { save }, _) | (Command::Decide { save }, Answer::SecondRun) => {
                 self.readings[save].clear();
@@ -121,23 +122,34 @@ impl Watch {
             {
                 self.written[save].insert(sheet);
             }
-            (Command::Apply { node, save }, _) => self.note_apply(state, node, save),
+            (Command::Apply { node, save }, _) => self.note_apply(state, node, save)?,
             (Command::Take { node }, Answer::Taken { save, verdict }) => {
                 self.note_take(state, node, save, verdict);
             }
             _ => {}
         }
+        Ok(())
     }
 
-    fn note_apply(&mut self, state: &Engine, node: usize, save: usize) {
+    fn note_apply(&mut self, state: &Engine, node: usize, save: usize) -> Result<(), String> {
         for (number, sheet) in state.sheets.iter().enumerate() {
-            if sheet.owner == node && stores_the_same(state, save, number) {
+            let Some(content) = stored(state, save, number) else { continue };
+            if sheet.owner != node {
+                continue;
+            }
+            let read = self.readings[save].get(&number).map(|reading| reading.answered);
+            let there = sheet.content;
+            if read != Some(there) {
+                return Err(format!("over: save {save} has read {read:?} at {number} for {there}"));
+            }
+            if content == there {
                 self.met.same += 1;
                 for reading in self.readings.iter_mut().filter_map(|own| own.get_mut(&number)) {
                     reading.stored_again = true;
                 }
             }
         }
+        Ok(())
     }
 
     fn note_take(&mut self, state: &Engine, node: usize, save: usize, verdict: Verdict) {
@@ -158,7 +170,8 @@ impl Watch {
         } else {
             let mut x = state.sheets[sheet].queue.iter().filter(is_x);
             let only = x.next().filter(|_| x.next().is_none());
-            let saves_nothing = only.is_some_and(|x| stores_the_same(state, x.save, sheet));
+            let there = state.sheets[sheet].content;
+            let saves_nothing = only.is_some_and(|x| stored(state, x.save, sheet) == Some(there));
             let behind = state.saves[save].copies[&sheet].wct_seen < state.sheets[sheet].wct;
             self.met.failed_by_x += (saves_nothing && !behind) as u64;
         }
@@ -169,11 +182,11 @@ fn is_x(entry: &&Entry) -> bool {
     entry.lock == Lock::X
 }
 
-/// Is the save committed, and has it the content that is there to store to the sheet?
-fn stores_the_same(state: &Engine, save: usize, sheet: usize) -> bool {
-    let copy = state.saves[save].copies.get(&sheet).filter(|copy| copy.written);
-    let same = copy.is_some_and(|copy| copy.content == state.sheets[sheet].content);
-    state.saves[save].phase == Phase::Committed && same
+/// What a save that is committed has to store to the sheet.
+fn stored(state: &Engine, save: usize, sheet: usize) -> Option<u32> {
+    let save = &state.saves[save];
+    let copy = save.copies.get(&sheet).filter(|copy| copy.written);
+    copy.filter(|_| save.phase == Phase::Committed).map(|copy| copy.content)
 }
 
 /// Checks each state of a session, of which `run` is the run.
@@ -185,7 +198,9 @@ pub fn check(bytes: &[u8], run: &Session) -> Result<Met, String> {
     Session::run_watched(bytes, |_, state| {
         if checked.is_ok() {
             checked = watch.check_state(state);
-            steps.next().into_iter().for_each(|step| watch.note(state, step));
+        }
+        if let (Ok(()), Some(step)) = (&checked, steps.next()) {
+            checked = watch.note(state, step);
         }
     });
     checked.map(|()| watch.met)
