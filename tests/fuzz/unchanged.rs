@@ -13,7 +13,7 @@ impl Counts {
     pub fn close(&self) -> bool {
         let Met { same, passed, came_back, failed_by_x } = self.0;
         println!(
-            "unchanged: the same content stored {same}, readers from before it found valid {passed}, \
+            "unchanged: the same content stored {same}, readers from before it not failed there {passed}, \
              readers failed whose content came back {came_back}, failed by the X of a save that stores \
              the same {failed_by_x}"
         );

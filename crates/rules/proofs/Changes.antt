@@ -1,7 +1,7 @@
 -- A WCT is the count of the changes, in every state; a level copy is the invariant's.
 use Prim.Native.Nat.{ℕ, _+_, _≤_}
 use mathlib.Core.Path.{_≡_, refl, sym, ap, _∙_}
-use mathlib.Core.Bool.{Bool, true, false, _&&_, cond}
+use mathlib.Core.Bool.{Bool, true, false, _&&_, not, cond}
 use mathlib.Core.List.{List, [], _∷_}
 use mathlib.Core.Option.{Option, some}
 use native.Mathlib.Omega.{arith}
@@ -25,7 +25,7 @@ use Rattle.rules.proofs.Serializable.{committed-sure}
 
 -- a sheet before and after: the WCT has risen by 1 where the content is another, and else stayed
 abbrev Counted : Sheet → Sheet → Type 0
-Counted c d = d .wct ≡ c .wct + cond (eqb (d .content) (c .content)) 0 1
+Counted c d = d .wct ≡ c .wct + cond (not (eqb (d .content) (c .content))) 1 0
 
 left-alone : (c : Sheet) → Counted c c
 left-alone c = rw (eq-eqb (c .content) (c .content) refl) (omega arith)
@@ -125,7 +125,7 @@ unfolding fresh
 only-changes h cs = record {
   counts = λ k. omega (arith, counts-on cs (fresh h) k);
   level = always h cs .values .current;
-  unedited = λ n t k. stored-by h cs n t k (check (after h cs) (Apply n t)) refl;
+  over-reading = λ n t k. stored-by h cs n t k (check (after h cs) (Apply n t)) refl;
 }
 
 pub session-changes : (b : List ℕ) → SessionChanges b

@@ -15,10 +15,6 @@ raised : (w : ℕ) (b : Bool) → _≡_ {A = ℕ} (cond b 1 0) (cond (ltb w (w +
 raised w true = rw (lt-ltb w (w + 1) (omega arith))
 raised w false = rw (le-ltb w (w + 0) (omega arith))
 
-other-way : (b : Bool) → _≡_ {A = ℕ} (cond b 0 1) (cond (not b) 1 0)
-other-way true = refl
-other-way false = refl
-
 -- a sheet that is stored to, or stays
 module _ (c : Sheet) (v : ℕ) where
   abbrev after : Bool → Sheet
@@ -28,7 +24,7 @@ module _ (c : Sheet) (v : ℕ) where
   marked g = g && not (eqb v (c .content))
 
   by-mark : (g : Bool) → after g .wct ≡ c .wct + cond (marked g) 1 0
-  by-mark true = store-adds c v ∙ ap (λ n. c .wct + n) (other-way (eqb v (c .content)))
+  by-mark true = store-adds c v
   by-mark false = omega arith
 
   where-raised : (g : Bool) → _≡_ {A = ℕ} (cond (marked g) 1 0) (cond (ltb (c .wct) (after g .wct)) 1 0)

@@ -1,7 +1,7 @@
 -- When the counter rises: all that the proofs know of `store`.
 use Prim.Native.Nat.{ℕ, suc, _+_, _≤_}
 use mathlib.Core.Path.{_≡_}
-use mathlib.Core.Bool.{Bool, true, false, cond}
+use mathlib.Core.Bool.{Bool, true, false, not, cond}
 use native.Mathlib.Omega.{arith}
 use lib.Dec.{eqb}
 use borrow.Author.Tests.{eqb-true}
@@ -10,7 +10,7 @@ use Rattle.rules.proofs.Table.{bool}
 
 module _ (c : Sheet) (v : ℕ) where
   -- by 1 where the content is another than the one there, and else by 0
-  pub store-adds : store c v .wct ≡ c .wct + cond (eqb v (c .content)) 0 1
+  pub store-adds : store c v .wct ≡ c .wct + cond (not (eqb v (c .content))) 1 0
   store-adds = bool (eqb v (c .content)) (λ e. rw e (omega arith)) (λ e. rw e (omega arith))
 
   pub store-rises : c .wct ≤ store c v .wct
@@ -19,7 +19,7 @@ module _ (c : Sheet) (v : ℕ) where
   pub store-most : store c v .wct ≤ suc (c .wct)
   store-most = rw store-adds (most (eqb v (c .content)))
     where
-      most : (b : Bool) → c .wct + cond b 0 1 ≤ suc (c .wct)
+      most : (b : Bool) → c .wct + cond (not b) 1 0 ≤ suc (c .wct)
       most true = omega arith
       most false = omega arith
 

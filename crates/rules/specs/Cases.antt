@@ -207,17 +207,19 @@ pub record Marks : Type 0 where
 abbrev marks : String → (n t of-0 of-1 : ℕ) → Marks
 marks s n t a b = record { session = s; node = n; save = t; of-0 = a; of-1 = b }
 
--- two nodes with a sheet each; save 0 writes both sheets, on sheet 0 the content that is there, and is committed
-abbrev both-written : String
-both-written = "02 02 00 01  01 00  02 00 00  03 00 00 00 00 00 00  02 00 01  03 00 01 00 00 00 05  04 00  05 00  05 01  06 00  "
+-- two nodes with a sheet each; save 0 writes v to sheet 0 and 5 to sheet 1, and is committed
+abbrev both-written : (v : String) → String
+both-written v = "02 02 00 01  01 00  02 00 00  03 00 00 00 00 00 " ++ v ++ "  02 00 01  03 00 01 00 00 00 05  04 00  05 00  05 01  06 00  "
 
 abbrev pub applies : List Marks
 applies =
     -- save 0 wrote sheet 0, and has no copy of sheet 1
     marks W-38 0 0 1 0
-    -- each node's APPLY has a mark at its own sheet alone; at sheet 0 the content, 0, is the one there
-    ∷ marks both-written 0 0 0 0
-    ∷ marks both-written 1 0 0 1
+    -- each node's APPLY has 1 at its own sheet alone, and 0 there too where the content, 0, is the one there
+    ∷ marks (both-written "04") 0 0 1 0
+    ∷ marks (both-written "04") 1 0 0 1
+    ∷ marks (both-written "00") 0 0 0 0
+    ∷ marks (both-written "00") 1 0 0 1
     -- save 0 has only read sheet 1
     ∷ marks (crossed ++ "05 00  05 01  06 00  ") 0 0 1 0
     ∷ marks (crossed ++ "05 00  05 01  06 00  ") 1 0 0 0
@@ -225,7 +227,7 @@ applies =
     ∷ marks (W-43 ++ "02 01 00  03 01 00 00 00 00 09  08 01  ") 0 1 0 0
     -- it wrote the sheet in its first run and not in its last, which is committed
     ∷ marks (W-43 ++ "02 01 00  04 01  ") 0 1 0 0
-    -- its second run writes the 7 that is there, then the 0 that its first run read
+    -- its second run writes the 7 that is there; in the next row, the 0 that its first run read
     ∷ marks (W-43 ++ "02 01 00  03 01 00 00 00 00 07  04 01  ") 0 1 0 0
     ∷ marks (W-43 ++ "02 01 00  03 01 00 00 00 00 00  04 01  ") 0 1 1 0
     ∷ []
@@ -258,7 +260,7 @@ unchanged =
     -- an unchanged content is written all the same: save 0's X fails save 1, which then runs again
     ∷ case (fresh ++ "01 00  01 01  02 00 00  02 01 00  03 00 00 00 00 00 00  04 00  04 01  05 00  05 00") (fails 1 0 x-granted) "" "P 0 1 U\nP 1 1 U\nO 0 0 0\nT 9 0 0\n"
     ∷ case (fresh ++ "01 00  01 01  02 00 00  02 01 00  03 00 00 00 00 00 00  04 00  04 01  05 00  05 00  06 00  07 00 00  06 01") (answers second-run) "" "P 0 1 C\nP 1 2 U\nO 0 0 0\nT 12 1 0\n"
-    -- the content there counts, not the one that the first run read: the second run stores 1 on 1, then 0 on 1
+    -- the content there counts, not the one that the first run read: the second run stores 1 on 1; in the next row, 0 on 1
     ∷ case (second-reading ++ "03 01 00 00 00 00 01  04 01  07 00 01") (answers accepted) "" "P 0 1 C\nP 1 2 C\nO 0 1 1\nT 17 1 1\n"
     ∷ case (second-reading ++ "03 01 00 00 00 00 00  04 01  07 00 01") (answers accepted) "" "P 0 1 C\nP 1 2 C\nO 0 0 2\nT 17 1 1\n"
     -- the content last written counts: save 2 writes 9, then the 0 that is there

@@ -25,6 +25,15 @@ pub fn fresh(commands: &str) -> Vec<u8> {
     bytes(&format!("01 01 00 {commands}"))
 }
 
+/// A save with a READ and a WRITE of sheet 0, from its BEGIN to its APPLY.
+pub fn whole(save: u8, content: u32) -> String {
+    let content = content.to_be_bytes().map(|byte| format!("{byte:02x}")).join(" ");
+    format!(
+        "01 {save:02x} 02 {save:02x} 00 03 {save:02x} 00 {content} \
+         04 {save:02x} 05 00 06 {save:02x} 07 00 {save:02x}"
+    )
+}
+
 pub fn printed(session: &[u8]) -> String {
     String::from_utf8(report(&Session::run(session))).expect("figures and letters")
 }

@@ -1,6 +1,6 @@
 //! The marks that APPLY adds to the counters: worked sessions with every mark, and many sessions.
 
-use crate::cases::{bytes, end_of, fresh, W};
+use crate::cases::{bytes, end_of, fresh, whole, W};
 use crate::command::Command;
 use crate::counters::{adds_up, check};
 use crate::engine::Phase;
@@ -70,14 +70,8 @@ fn a_sheet_written_in_the_first_run_only_has_no_mark() {
 #[test]
 fn a_content_that_was_the_same_has_no_mark() {
     // Save 0 writes the 0 that is there, saves 1 and 2 both write 7.
-    let save = |save: &str, content: &str| {
-        format!(
-            "01 {save} 02 {save} 00 03 {save} 00 00 00 00 {content} \
-             04 {save} 05 00 06 {save} 07 00 {save} "
-        )
-    };
-    worked(&fresh(&save("00", "00")), &[&[0]], &[0]);
-    let three = save("00", "00") + &save("01", "07") + &save("02", "07");
+    worked(&fresh(&whole(0, 0)), &[&[0]], &[0]);
+    let three = [whole(0, 0), whole(1, 7), whole(2, 7)].join(" ");
     worked(&fresh(&three), &[&[0], &[1], &[0]], &[1]);
 }
 

@@ -17,7 +17,8 @@ pub struct Met {
     pub passed: u64,
     /// Readers of a content that went away and came back, whom the counter then failed.
     pub came_back: u64,
-    /// Saves that nothing failed at their cause's sheet but the X of one that stores the content there.
+    /// Saves that nothing failed at their cause's sheet but the X of a committed save that stores the content
+    /// there.
     pub failed_by_x: u64,
 }
 
@@ -41,7 +42,8 @@ struct Reading {
     stored_again: bool,
 }
 
-/// What the steps of a session have done up to a state, told without its counters and copies.
+/// What the steps of a session have done up to a state, told without its counters; which contents an APPLY
+/// stores is the state's own word.
 pub struct Watch {
     contents: Vec<u32>,
     /// After how many steps each sheet's content was another than before.

@@ -1,7 +1,7 @@
 //! Saves that saved nothing: the worked sessions, readers beside them, their X entries, contents that the
 //! two runs see otherwise, and many sessions.
 
-use crate::cases::{answers, bytes, end_of, fresh, invalid, printed, valid, W, W_REPORT};
+use crate::cases::{answers, bytes, end_of, fresh, invalid, printed, valid, whole, W, W_REPORT};
 use crate::command::Header;
 use crate::counters;
 use crate::engine::{Answer, Engine, Lock, Rule};
@@ -23,15 +23,6 @@ fn worked(session: &[u8], report: &str) -> Met {
 fn marks(session: &[u8]) -> Vec<Vec<u32>> {
     let applied = counters::check(session, &Session::run(session)).expect("counters");
     applied.into_iter().map(|(_, marks)| marks).collect()
-}
-
-/// A save with a READ and a WRITE of sheet 0, from its BEGIN to its APPLY.
-fn whole(save: u8, content: u32) -> String {
-    let content = content.to_be_bytes().map(|byte| format!("{byte:02x}")).join(" ");
-    format!(
-        "01 {save:02x} 02 {save:02x} 00 03 {save:02x} 00 {content} \
-         04 {save:02x} 05 00 06 {save:02x} 07 00 {save:02x}"
-    )
 }
 
 #[test]
@@ -192,7 +183,8 @@ fn each_sheet_counts_by_itself() {
 }
 
 #[test]
-fn the_check_sees_each_wrong_clause() {
+fn the_check_sees_each_wrong_clause_of_a_state() {
+    // A wrong reading is seen before its APPLY; `over` is seen where `tests/mutants` breaks TAKE.
     let header = Header { nodes: 1, owner: vec![0] };
     let right = end_of(&fresh("01 00 02 00 00 04 00 05 00"));
     let clause = |harm: fn(&mut Engine)| {
