@@ -1,4 +1,5 @@
 pub mod Lent
+pub mod Difference
 pub mod Carry
 pub mod Joins
 pub mod Leaves

@@ -3,6 +3,7 @@ ghost use Prim.Native.Nat.{_+_, _≤_, _<_};
 ghost use mathlib.Core.Path.{_≡_};
 ghost use mathlib.Core.Bool.{_&&_, not, cond};
 ghost use lib.ListN.{getD};
+ghost use lib.Bits.{bitXor};
 ghost use lib.Dec.{eqb, leb};
 ghost use Rattle.rules.specs.Bytes.{Take, Apply};
 ghost use Rattle.state.specs.Parts.{bytes, hints, STANDING, ORDER, TAKEN};
@@ -59,23 +60,24 @@ fn receives(o: u8, n: u8, p: u8, x: u8) -> bool
     (o == n) & ((p == COMMITTED) & (WRITTEN <= x))
 }
 
-// v, if g, and u otherwise.
-fn pick(g: bool, v: u32, u: u32) -> u32
-    ensures { λ r. ⌜ r ≡ cond g v u ⌝ }
+// The bits in which a sheet's content changes: it is u, and becomes v if g.
+fn change(g: bool, v: u32, u: u32) -> u32
+    ensures { λ r. ⌜ bitXor u r ≡ cond g v u ⌝ }
+    ensures some { λ r. ⌜ not (eqb r 0) ≡ (g && not (eqb v u)) ⌝ }
 {
-    if g { v } else { u }
+    (v ^ u) * (g as u32)
 }
 
-// What APPLY adds to a sheet's WCT: 1, if the sheet receives a content, v, and has another, u; 0 otherwise.
-fn wct_mark(g: bool, v: u32, u: u32) -> u32
-    ensures { λ r. ⌜ r ≡ cond (g && not (eqb v u)) 1 0 ⌝ }
+// What APPLY adds to a sheet's WCT: 1, if the content changes, and 0 otherwise.
+fn wct_mark(g: bool) -> u32
+    ensures { λ r. ⌜ r ≡ cond g 1 0 ⌝ }
     ensures bit { λ r. ⌜ r ≤ 1 ⌝ }
 {
-    (g & (v != u)) as u32
+    g as u32
 }
 
 // The sheets of node n that save t wrote receive its contents, if it is committed, and each WCT has its mark added. All sheets are stored
-// to, and nothing branches on the way to a sum.
+// to, and nothing branches on the way to a sum or to a content.
 fn carry_out(b: &[u8], value: &[u32], w: &mut [u32], m: usize, n: u8, t: usize)
     requires { ⌜ Ready m (bytes m (now b)) × Table 32 m (now value) × Table 2 m (now w) × Rising m (now w) × (t < 32) ⌝ }
     ensures { λ _. ⌜ Applied m (bytes m (now (b .entry))) (now (value .entry)) n t (now (w .entry)) m (now (w .exit)) ⌝ }
@@ -89,8 +91,9 @@ fn carry_out(b: &[u8], value: &[u32], w: &mut [u32], m: usize, n: u8, t: usize)
         let g = receives(o, n, p, x);
         let v = value[t * m + k];
         let u = w[k];
-        let c = w[m + k] + wct_mark(g, v, u);
-        w[k] = pick(g, v, u);
+        let d = change(g, v, u);
+        let c = w[m + k] + wct_mark(d != 0);
+        w[k] = u ^ d;
         w[m + k] = c;
         k += 1;
     }

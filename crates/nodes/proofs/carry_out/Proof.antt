@@ -1,6 +1,7 @@
 -- One sheet more is as APPLY leaves it.
 use Prim.Native.Nat.{_-_, _≤_}
-use mathlib.Core.Path.{_≡_}
+use mathlib.Core.Path.{_≡_, ap, _∙_}
+use mathlib.Core.Bool.{Bool, cond}
 use native.Mathlib.Omega.{arith}
 use lib.ListN.{length-set}
 use Rattle.state.specs.Parts.{byte-sizes, bytes, MARK}
@@ -59,24 +60,24 @@ mul-u c = search needs
 slice-read-u : tie.Need-slice-read-u Inv-loop μ-loop
 slice-read-u c = let s = c .before .before .before .before .before .before .before .before .before .before .before .before in omega (arith, c .before .before .before .before .before .before .loop .inv .1 .size, s .pre .2)
 
+change-requires : tie.Need-change-requires Inv-loop μ-loop
+change-requires c κs = search needs
+
 add-c : tie.Need-add-c Inv-loop μ-loop
-add-c c = let s = c .before .before .before .before .before .before .before .before .before .before .before .before in omega (arith, s .pre .0 .sheets16)
+add-c c = let s = c .before .before .before .before .before .before .before .before .before .before .before .before .before in omega (arith, s .pre .0 .sheets16)
 
 mul-c : tie.Need-mul-c Inv-loop μ-loop
 mul-c c = search needs
 
 slice-read-c : tie.Need-slice-read-c Inv-loop μ-loop
-slice-read-c c = let s = c .before .before .before .before .before .before .before .before .before .before .before .before .before in omega (arith, c .before .before .before .before .before .before .before .loop .inv .1 .size, s .pre .2)
+slice-read-c c = let s = c .before .before .before .before .before .before .before .before .before .before .before .before .before .before in omega (arith, c .before .before .before .before .before .before .before .before .loop .inv .1 .size, s .pre .2)
 
 wct-mark-requires : tie.Need-wct-mark-requires Inv-loop μ-loop
 wct-mark-requires c κs = search needs
 
 add-c-2 : tie.Need-add-c-2 Inv-loop μ-loop
-add-c-2 c = let l = c .before .before .before .before .before .before .before .before .loop in
-    record { fits = can-rise (l .w) (l .inv .1) (c .before .before .before .before .before .before .before .loop-test .taken) (c .before .before .before .before .before .before .before .before .before .before .before .before .before .before .pre .3) (c .wct-mark .ensures .1) }
-
-pick-requires : tie.Need-pick-requires Inv-loop μ-loop
-pick-requires c κs = search needs
+add-c-2 c = let l = c .before .before .before .before .before .before .before .before .before .loop in
+    record { fits = can-rise (l .w) (l .inv .1) (c .before .before .before .before .before .before .before .before .loop-test .taken) (c .before .before .before .before .before .before .before .before .before .before .before .before .before .before .before .pre .3) (c .wct-mark .ensures .1) }
 
 mul-w : tie.Need-mul-w Inv-loop μ-loop
 mul-w c = search needs
@@ -105,7 +106,7 @@ loop-again c = let s = c .before .before .before .before .before .before .before
     let h = c .before .before .before .before .before .before .before .before .loop-test .taken in (
       omega arith,
       carry-on (l .w) (l .inv .1) h (s .pre .2) (c .before .before .before .before .before .before .before .owner .ensures) (c .before .before .before .before .before .before .before .before .before .before .before .phase .ensures) (row-get (byte-sizes (s .args .m)) (s .args .b .now) MARK (s .args .m) (s .args .t) (l .k) (c .before .before .before .before .before .before .before .before .before .before .marks .ensures) (cell-in (s .args .m) (s .pre .4) h))
-          (c .before .before .before .before .before .receives .ensures) (c .pick .ensures) (c .before .wct-mark .ensures .0),
+          (c .before .before .before .before .before .receives .ensures) (c .before .before .change .ensures .0) (c .wct-mark .ensures .0 ∙ ap (λ (b : Bool). cond b 1 0) (c .before .before .change .ensures .1)),
     )
 
 same-length : tie.Need-same-length Inv-loop μ-loop
@@ -133,12 +134,12 @@ carry-out-spec =
     shared-slice-read-v
     mul-u
     slice-read-u
+    change-requires
     add-c
     mul-c
     slice-read-c
     wct-mark-requires
     add-c-2
-    pick-requires
     mul-w
     slice-write-w
     add-w

@@ -1,9 +1,8 @@
 -- By cases on the test.
 use Prim.Native.Nat.{_≤_}
 use mathlib.Core.Path.{_≡_, refl}
-use mathlib.Core.Bool.{Bool, true, false, _&&_, not, cond}
+use mathlib.Core.Bool.{Bool, true, false, cond}
 use native.Mathlib.Omega.{arith}
-use lib.Dec.{eqb}
 use mir.Val.{boolByte}
 use borrow.Author.Needs.{needs}
 use Rattle.nodes.proofs.wct_mark.Statement.{statement}
@@ -22,7 +21,7 @@ cast-result : tie.Need-cast-result
 cast-result c = search needs
 
 returns : tie.Need-returns
-returns c = let g = c .args .g && not (eqb (c .args .v) (c .args .u)) in (number g, at-most-one g)
+returns c = (number (c .args .g), at-most-one (c .args .g))
 
 pub wct-mark-spec : {M : Type 1} → statement M
 wct-mark-spec = tie.close (tie.spec cast-result returns)
