@@ -11,23 +11,17 @@ use borrow.Author.Tests.{eqb-true, eqb-false, ne-eqb}
 use mir.Val.{boolByte}
 use Rattle.rules.proofs.Table.{bool}
 
+no-bit : {n : ℕ} → suc (suc n) < 2 → ⊥
+no-bit h = omega arith
+
 bit-back : (a b : ℕ) → a < 2 → b < 2 → differ a (bitXor b a) ≡ b
 bit-back zero zero h k = refl
 bit-back zero (suc zero) h k = refl
 bit-back (suc zero) zero h k = refl
 bit-back (suc zero) (suc zero) h k = refl
-bit-back zero (suc (suc b)) h k = absurd (too-much k)
-  where
-    too-much : suc (suc b) < 2 → ⊥
-    too-much k = omega arith
-bit-back (suc zero) (suc (suc b)) h k = absurd (too-much k)
-  where
-    too-much : suc (suc b) < 2 → ⊥
-    too-much k = omega arith
-bit-back (suc (suc a)) b h k = absurd (too-much h)
-  where
-    too-much : suc (suc a) < 2 → ⊥
-    too-much h = omega arith
+bit-back zero (suc (suc b)) h k = absurd (no-bit k)
+bit-back (suc zero) (suc (suc b)) h k = absurd (no-bit k)
+bit-back (suc (suc a)) b h k = absurd (no-bit h)
 
 xor-back : (u v : ℕ) → bitXor u (bitXor v u) ≡ v
 xor-back = bin-ind (λ (n : ℕ). (v : ℕ) → bitXor n (bitXor v n) ≡ v) (λ v. xor-zero-r v)

@@ -1,4 +1,4 @@
--- A WCT is the count of the changes, in every state; a level copy is the invariant's.
+-- A WCT is the count of the changes, in every state; the rest is from the invariant: level copies, and what an APPLY stores over.
 use Prim.Native.Nat.{ℕ, _+_, _≤_}
 use mathlib.Core.Path.{_≡_, refl, sym, ap, _∙_}
 use mathlib.Core.Bool.{Bool, true, false, _&&_, not, cond}

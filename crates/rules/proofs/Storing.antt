@@ -1,4 +1,4 @@
--- When the counter rises: all that the proofs know of `store`.
+-- When the counter rises: all that the proofs know of a store's WCT.
 use Prim.Native.Nat.{ℕ, suc, _+_, _≤_}
 use mathlib.Core.Path.{_≡_}
 use mathlib.Core.Bool.{Bool, true, false, not, cond}
