@@ -1,25 +1,25 @@
 -- READ and WRITE: their first tests by the number that these give, and what they store as their rules' effect.
-use Prim.Native.Nat.{ℕ, zero, suc, _+_, _*_, _<_}
+use Prim.Native.Nat.{ℕ, _+_, _*_, _<_}
 use mathlib.Core.Path.{_≡_, refl, sym, _∙_}
 use mathlib.Core.Bool.{Bool, true, false, not, _&&_, _||_, or-true, cond}
 use mathlib.Core.Logic.{_≢_}
 use mathlib.Core.List.{List}
 use native.Mathlib.Omega.{arith}
 use lib.ListN.{length, getD, set}
-use lib.Dec.{eqb, ltb, leb}
-use borrow.Author.Tests.{ltb-true, le-leb, ne-eqb}
+use lib.Dec.{eqb, ltb}
+use borrow.Author.Tests.{ltb-true, ne-eqb}
 use Rattle.rules.specs.Bytes.{Read, Write}
-use Rattle.rules.specs.State.{Sheet, Mark, absent, copied, written, Claim, Tally, State, is-unused, is-first, running, over, has-copy, claims, is-x}
+use Rattle.rules.specs.State.{Sheet, Mark, absent, copied, written, Tally, State, is-unused, running, over, has-copy}
 use Rattle.rules.specs.Steps.{at-front, x-on, Checked, pass, refuse, check, read-mark, read-copy}
 use Rattle.state.specs.declared.Answer.the-variants.{Content, Accepted, Refused}
-use Rattle.state.specs.Parts.{Parts, store, CONTENT, WCT, MARK, CLAIM, STANDING, OWNER, PHASE, ORDER, PLACE, TAKEN}
-use Rattle.state.specs.View.{as-phase, out-of-phase, as-mark, as-claim, set?, flat, claim-in, queue-in, view}
+use Rattle.state.specs.Parts.{Parts, store, CONTENT, WCT, MARK, CLAIM, STANDING, OWNER, PHASE, LINE, MET}
+use Rattle.state.specs.View.{as-phase, out-of-phase, as-mark, set?, flat, claim-in, queue-in, view}
 use Rattle.state.specs.Ready.{Table}
 use Rattle.state.specs.Lent.{Steps}
 use Rattle.rules.proofs.Table.{bool}
 use Rattle.state.proofs.Tables.{upd2-by}
 use Rattle.state.proofs.Cells.{cell-in}
-use Rattle.state.proofs.Codes.{first-code, second-code, has-copy-code}
+use Rattle.state.proofs.Codes.{second-code, has-copy-code}
 use Rattle.state.proofs.OutOfPhase.{out-refuses, running-tests}
 use Rattle.state.proofs.Stores.{flat-in, flat-same, flat-other}
 use Rattle.state.proofs.Steps.{refused, accepted, same-state}
@@ -36,20 +36,15 @@ kept-copy absent own other e = let z : _≡_ {A = Bool} true false = sym e in cc
 kept-copy copied own other e = refl
 kept-copy written own other e = refl
 
-pub claims-least : (c : ℕ) → claims (as-claim c) ≡ leb 1 c
-claims-least zero = refl
-claims-least (suc zero) = refl
-claims-least (suc (suc c)) = rw (le-leb 1 (suc (suc c)) (omega arith))
-
 -- a save and a sheet that are not barred are there
-pub in-range : (m : ℕ) (d : Parts) (t k least : ℕ) → {r : ℕ} → r ≡ barred-by m d t k least → r ≡ 0 → (t < 32) × (k < m)
+pub in-range : (m : ℕ) (d : Parts) (t k : ℕ) → {r : ℕ} → r ≡ barred-by m d t k → r ≡ 0 → (t < 32) × (k < m)
 unfolding barred-by
-in-range m d t k least e z =
+in-range m d t k e z =
     bool (ltb t 32)
     (λ a. bool (ltb k m) (λ b. (ltb-true t 32 a, ltb-true k m b)) (λ b. let four : 4 ≡ 0 = rw (a, b) at (sym e ∙ z) in absurd (omega arith)))
     (λ a. let four : 4 ≡ 0 = rw a at (sym e ∙ z) in absurd (omega arith))
 
-module _ (m : ℕ) (d : Parts) (value seen w : List ℕ) (t k least : ℕ) {r : ℕ} (e : r ≡ barred-by m d t k least) where
+module _ (m : ℕ) (d : Parts) (value seen w : List ℕ) (t k : ℕ) {r : ℕ} (e : r ≡ barred-by m d t k) where
   abbrev S : Tally → State
   S = view m d value seen w
 
@@ -61,44 +56,42 @@ module _ (m : ℕ) (d : Parts) (value seen w : List ℕ) (t k least : ℕ) {r : 
 
   -- the front entry of the sheet's queue is an X
   abbrev front : Bool
-  front = at-front (x-on (claim-in m (d CLAIM)) k) (queue-in m (d ORDER) (λ u. getD (d PLACE) u 0) (d STANDING) (d CLAIM) (getD (d OWNER) k 0) k (getD (d TAKEN) (getD (d OWNER) k 0) 0))
+  front = at-front (x-on (claim-in m (d CLAIM)) k) (queue-in m (d LINE) (d STANDING) (d CLAIM) (getD (d OWNER) k 0) k (getD (d MET) (getD (d OWNER) k 0) 0))
 
-  -- the rules' tests that are READ's and WRITE's, of which the last asks f of the claim, and what is asked after them
-  by-number : (f : Claim → Bool) → ((c : ℕ) → f (as-claim c) ≡ leb least c) → (rest : Checked)
+  -- the rules' tests that are READ's and WRITE's, and what is asked after them
+  by-number : (rest : Checked)
       → cond (ltb t 32) (cond (ltb k m) (cond (not (is-unused (as-phase p))) (cond (not (over (as-phase p)))
-      (cond (running (as-phase p)) (cond (is-first (as-phase p) || f (claim-in m (d CLAIM) t k)) rest (refuse 8)) (refuse 5)) (refuse 14)) (refuse 13)) (refuse 4)) (refuse 4)
+      (cond (running (as-phase p)) rest (refuse 5)) (refuse 14)) (refuse 13)) (refuse 4)) (refuse 4)
       ≡ cond (eqb r 0) rest (refuse r)
   unfolding barred-by
-  by-number f code rest =
-      rw (e, running-tests (cond (is-first (as-phase p) || f (claim-in m (d CLAIM) t k)) rest (refuse 8)) p, first-code p, code (flat m (d CLAIM) t k))
-      (by-cases (ltb t 32) (ltb k m) (eqb p 1 || eqb p 3) (eqb p 1 || leb least (flat m (d CLAIM) t k)) (out-of-phase p) (out-refuses p))
+  by-number rest =
+      rw (e, running-tests rest p) (by-cases (ltb t 32) (ltb k m) (eqb p 1 || eqb p 3) (out-of-phase p) (out-refuses p))
     where
-      by-cases : (a b c d : Bool) (o : ℕ) → eqb o 0 ≡ false
-          → cond a (cond b (cond c (cond d rest (refuse 8)) (refuse o)) (refuse 4)) (refuse 4)
-          ≡ (let n = cond a (cond b (cond c (cond d 0 8) o) 4) 4 in cond (eqb n 0) rest (refuse n))
-      by-cases true true true true o z = refl
-      by-cases true true true false o z = refl
-      by-cases true true false d o z = rw z
-      by-cases true false c d o z = refl
-      by-cases false b c d o z = refl
+      by-cases : (a b c : Bool) (o : ℕ) → eqb o 0 ≡ false
+          → cond a (cond b (cond c rest (refuse o)) (refuse 4)) (refuse 4)
+          ≡ (let n = cond a (cond b (cond c 0 o) 4) 4 in cond (eqb n 0) rest (refuse n))
+      by-cases true true true o z = refl
+      by-cases true true false o z = rw z
+      by-cases true false c o z = refl
+      by-cases false b c o z = refl
 
-  pub read-barred : ((c : ℕ) → claims (as-claim c) ≡ leb least c) → r ≢ 0 → Steps S (Read t k) S (Refused r)
-  read-barred code n = refused (λ tally. by-number claims code _ ∙ rw (ne-eqb r 0 n))
+  pub read-barred : r ≢ 0 → Steps S (Read t k) S (Refused r)
+  read-barred n = refused (λ tally. by-number _ ∙ rw (ne-eqb r 0 n))
 
-  pub write-barred : ((c : ℕ) → is-x (as-claim c) ≡ leb least c) → (v : ℕ) → r ≢ 0 → Steps S (Write t k v) S (Refused r)
-  write-barred code v n = refused (λ tally. by-number is-x code _ ∙ rw (ne-eqb r 0 n))
+  pub write-barred : (v : ℕ) → r ≢ 0 → Steps S (Write t k v) S (Refused r)
+  write-barred v n = refused (λ tally. by-number _ ∙ rw (ne-eqb r 0 n))
 
   k-in : r ≡ 0 → k < m
-  k-in z = in-range m d t k least e z .1
+  k-in z = in-range m d t k e z .1
 
   i-in : r ≡ 0 → i < 32 * m
-  i-in z = let b = in-range m d t k least e z in cell-in m (b .0) (b .1)
+  i-in z = let b = in-range m d t k e z in cell-in m (b .0) (b .1)
 
-  module _ (code : (c : ℕ) → claims (as-claim c) ≡ leb least c) (z : r ≡ 0) where
+  module _ (z : r ≡ 0) where
     -- where there is no copy, the last test is left
     read-last : (b : Bool) → getD (d MARK) i 0 ≡ 0 → (not (eqb p 3) && front) ≡ b → (tally : Tally) → check (S tally) (Read t k) ≡ cond (not b) pass (refuse 6)
     read-last b n o tally =
-        by-number claims code _ ∙ rw (z, second-code p, flat-in m (d MARK) t k (k-in z), n, sides (eqb p 3) front, o)
+        by-number _ ∙ rw (z, second-code p, flat-in m (d MARK) t k (k-in z), n, sides (eqb p 3) front, o)
       where
         sides : (a b : Bool) → a || not b ≡ not (not a && b)
         sides true b = refl
@@ -113,7 +106,7 @@ module _ (m : ℕ) (d : Parts) (value seen w : List ℕ) (t k least : ℕ) {r : 
         let one : has-copy (as-mark (flat m (d MARK) t k)) ≡ true = rw (flat-in m (d MARK) t k (k-in z), has-copy-code (getD (d MARK) i 0), ne-eqb (getD (d MARK) i 0) 0 n) in
         let own : Sheet = record { content = flat m value t k; wct = flat m seen t k } in
         accepted
-        (λ tally. by-number claims code _ ∙ rw (z, second-code p, one, or-true (eqb p 3)))
+        (λ tally. by-number _ ∙ rw (z, second-code p, one, or-true (eqb p 3)))
         (λ tally. rw (kept-mark (as-mark (flat m (d MARK) t k)) one, kept-copy (as-mark (flat m (d MARK) t k)) own (S tally .sheet k) one)
         (same-state refl refl refl refl
         (upd2-by (S tally .mark) (S tally .mark) t k (as-mark (flat m (d MARK) t k)) refl (λ x y n. refl))
@@ -137,10 +130,10 @@ module _ (m : ℕ) (d : Parts) (value seen w : List ℕ) (t k least : ℕ) {r : 
         refl refl refl refl refl refl refl))
         (λ tally. rw (none, ev)))
 
-  module _ (code : (c : ℕ) → is-x (as-claim c) ≡ leb least c) (v : ℕ) (z : r ≡ 0) where
+  module _ (v : ℕ) (z : r ≡ 0) where
     -- the last test is left
     write-last : (b : Bool) → set? (getD (d MARK) i 0) ≡ b → (tally : Tally) → check (S tally) (Write t k v) ≡ cond b pass (refuse 7)
-    write-last b o tally = by-number is-x code _ ∙ rw (z, flat-in m (d MARK) t k (k-in z), has-copy-code (getD (d MARK) i 0), o)
+    write-last b o tally = by-number _ ∙ rw (z, flat-in m (d MARK) t k (k-in z), has-copy-code (getD (d MARK) i 0), o)
 
     pub write-7 : getD (d MARK) i 0 ≡ 0 → Steps S (Write t k v) S (Refused 7)
     write-7 n = refused (write-last false (rw n))

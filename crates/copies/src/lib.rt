@@ -12,18 +12,15 @@ ghost use Rattle.copies.specs.Barred.{barred-by};
 use state::ABSENT;
 use state::Answer;
 use state::COPIED;
-use state::EXCLUSIVE;
-use state::FIRST_RUN;
 use state::SECOND_RUN;
-use state::SHARED;
 use state::Session;
 use state::WRITTEN;
 
-// What READ or WRITE of sheet k by save t is refused for before its copy is looked at: 4, 13, 14, 5 or 8, or 0 where it is not.
-// In the first run any sheet is open, in the second one whose claim is `least` or more.
-fn barred(b: &[u8], m: usize, t: u8, k: u16, least: u8) -> u8
+// What READ or WRITE of sheet k by save t is refused for before its copy is looked at: 4, 13, 14 or 5, or 0 where it is not. In every run any
+// sheet is open.
+fn barred(b: &[u8], m: usize, t: u8, k: u16) -> u8
     requires { ⌜ Whole (byte-sizes m) (bytes m (now b)) ⌝ }
-    ensures { λ r. ⌜ r ≡ barred-by m (bytes m (now (b .entry))) t k least ⌝ }
+    ensures { λ r. ⌜ r ≡ barred-by m (bytes m (now (b .entry))) t k ⌝ }
 {
     let ki = k as usize;
     if Session::SAVE_NUMBERS <= t || m <= ki {
@@ -31,17 +28,11 @@ fn barred(b: &[u8], m: usize, t: u8, k: u16, least: u8) -> u8
     }
     let ti = t as usize;
     let p = state::phase(b, m, ti);
-    if p == FIRST_RUN {
+    let run = state::running(p);
+    if run {
         return 0;
     }
-    if p != SECOND_RUN {
-        return state::out_of_phase(p);
-    }
-    let c = state::claim(b, m, ti, ki);
-    if c < least {
-        return 8;
-    }
-    0
+    state::out_of_phase(p)
 }
 
 // A save of phase p is in its first run, and finds an X at the front of sheet k's queue.
@@ -75,7 +66,7 @@ pub fn read(
         (reading (now (b .exit)) (now (value .exit)) (now (seen .exit)) (now (w .entry)))
         ⌝ }
 {
-    let r = barred(b, m, t, k, SHARED);
+    let r = barred(b, m, t, k);
     if r != 0 {
         return Answer::Refused(r);
     }
@@ -105,7 +96,7 @@ pub fn write(b: &mut [u8], value: &mut [u32], m: usize, t: u8, k: u16, v: u32) -
     ensures { λ r. ⌜ Moves m (writing (now (b .entry)) (now (value .entry))) (Write t k v) (writing (now (b .exit)) (now (value .exit))) r ⌝ }
     ensures kept { λ _. ⌜ Keeps m (writing (now (b .entry)) (now (value .entry))) (writing (now (b .exit)) (now (value .exit))) ⌝ }
 {
-    let r = barred(b, m, t, k, EXCLUSIVE);
+    let r = barred(b, m, t, k);
     if r != 0 {
         return Answer::Refused(r);
     }

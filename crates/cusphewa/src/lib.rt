@@ -14,6 +14,7 @@ ghost use lib.ListN.{length};
 ghost use Rattle.rules.specs.Demand3.{SessionDemand3};
 ghost use Rattle.rules.specs.Neighbours.{SessionNeighbours};
 ghost use Rattle.rules.specs.Changes.{SessionChanges};
+ghost use Rattle.rules.specs.Eight.{NeverEight};
 ghost use Rattle.rules.specs.Causes.{WhyFailed};
 ghost use Rattle.rules.specs.Calls as calls;
 ghost use Rattle.rules.specs.Report as rules;
@@ -35,6 +36,7 @@ pub extern "C" fn cusphewa_report(session: &[u8], report: &mut [u8]) -> usize
     ensures demand3 { λ _. ⌜ SessionDemand3 (now (session .entry)) ⌝ }
     ensures neighbours { λ _. ⌜ SessionNeighbours (now (session .entry)) ⌝ }
     ensures changes { λ _. ⌜ SessionChanges (now (session .entry)) ⌝ }
+    ensures eight { λ _. ⌜ NeverEight (now (session .entry)) ⌝ }
     ensures fits { λ r. ⌜ r ≤ length (now (report .entry)) ⌝ }
 {
     if report.len() < MIN_BUFFER {

@@ -10,28 +10,24 @@ use lib.Seq.{getD-set-same, getD-set-other}
 use lib.Dec.{eqb}
 use borrow.Author.Tests.{eq-eqb, ne-eqb, lt-ltb, le-leb, lt-leb}
 use Rattle.rules.specs.Bytes.{Apply}
-use Rattle.rules.specs.State.{claims}
+use Rattle.rules.specs.State.{claims, at}
 use Rattle.rules.specs.Steps.{without, has-entry}
 use Rattle.rules.proofs.Table.{same?}
-use Rattle.rules.proofs.Places.{at}
 use Rattle.state.specs.declared.Answer.the-variants.{Accepted, Refused}
-use Rattle.state.specs.Parts.{Parts, store, CLAIM, STANDING, OWNER, PHASE, ORDER, PLACE, TAKEN, GONE}
+use Rattle.state.specs.Parts.{Parts, store, CLAIM, STANDING, OWNER, PHASE, LINE, MET, GONE}
 use Rattle.state.specs.View.{set?, out-of-phase, claim-in, entered, queue-in, nodes, view, no-tally}
 use Rattle.state.specs.Ready.{Ready, Gone, Trimmed}
 use Rattle.state.specs.Lent.{Steps}
 use Rattle.state.proofs.OutOfPhase.{over-tests}
 use Rattle.state.proofs.Parts.{whole-store}
 use Rattle.state.proofs.Behind.{behind-left, behind-on}
-use Rattle.state.proofs.Places.{entries-cong, entries-without}
+use Rattle.state.proofs.Places.{waiting-cong, waiting-without}
 use Rattle.state.proofs.Steps.{refused, accepted, same-state}
 use Rattle.state.proofs.Lent.{Holds}
 use Rattle.nodes.specs.Carry.{Applied}
 use Rattle.nodes.proofs.Carry.{all-applied}
 
 module _ {m : ℕ} {d : Parts} (ready : Ready m d) (n t : ℕ) (ln : n < nodes d) (t32 : t < 32) where
-  abbrev place : ℕ → ℕ
-  place u = getD (d PLACE) u 0
-
   abbrev standing′ : List ℕ
   standing′ = set (d STANDING) (n * 32 + t) 0
 
@@ -41,13 +37,13 @@ module _ {m : ℕ} {d : Parts} (ready : Ready m d) (n t : ℕ) (ln : n < nodes d
   stands : n * 32 + t < length (d STANDING)
   stands = rw (ready .shaped .whole .all STANDING) (omega (arith, node8))
 
-  small : (o q : ℕ) → q < getD (d TAKEN) o 0 → at (d ORDER) q < 32
-  small o q l = ready .small q (omega (arith, ready .takens o))
+  small : Trimmed d → (o q : ℕ) → q < getD (d MET) o 0 → at (d LINE) q < 32
+  small k o q l = k .small q (omega (arith, k .met o))
 
   abbrev Leaves : ℕ → ℕ → Type 0
   Leaves k o =
-      queue-in m (d ORDER) place standing′ (d CLAIM) o k (getD (d TAKEN) o 0)
-      ≡ cond (eqb o n) (without t (queue-in m (d ORDER) place (d STANDING) (d CLAIM) o k (getD (d TAKEN) o 0))) (queue-in m (d ORDER) place (d STANDING) (d CLAIM) o k (getD (d TAKEN) o 0))
+      queue-in m (d LINE) standing′ (d CLAIM) o k (getD (d MET) o 0)
+      ≡ cond (eqb o n) (without t (queue-in m (d LINE) (d STANDING) (d CLAIM) o k (getD (d MET) o 0))) (queue-in m (d LINE) (d STANDING) (d CLAIM) o k (getD (d MET) o 0))
 
   goes : (k u : ℕ) → u < 32 → entered m standing′ (d CLAIM) n k u ≡ (entered m (d STANDING) (d CLAIM) n k u && not (eqb u t))
   unfolding entered
@@ -60,15 +56,15 @@ module _ {m : ℕ} {d : Parts} (ready : Ready m d) (n t : ℕ) (ln : n < nodes d
   unfolding entered
   stays k o u l z = rw (getD-set-other (d STANDING) (n * 32 + t) (o * 32 + u) 0 0 (λ e. z (omega arith)))
 
-  leaves : (k o : ℕ) → Leaves k o
-  leaves k o =
+  leaves : Trimmed d → (k o : ℕ) → Leaves k o
+  leaves r k o =
       same? o n
-      (λ e. subst (Leaves k) (sym e) (rw (eq-eqb n n refl, entries-without (d ORDER) place (entered m (d STANDING) (d CLAIM) n k) t (getD (d TAKEN) n 0))
-      (entries-cong (d ORDER) (d ORDER) place place (entered m standing′ (d CLAIM) n k) (λ u. entered m (d STANDING) (d CLAIM) n k u && not (eqb u t)) (getD (d TAKEN) n 0) (λ q l. refl) (λ q l. refl)
-      (λ q l. goes k (at (d ORDER) q) (small n q l)))))
+      (λ e. subst (Leaves k) (sym e) (rw (eq-eqb n n refl, waiting-without (d LINE) (entered m (d STANDING) (d CLAIM) n k) t (getD (d MET) n 0))
+      (waiting-cong (d LINE) (d LINE) (entered m standing′ (d CLAIM) n k) (λ u. entered m (d STANDING) (d CLAIM) n k u && not (eqb u t)) (getD (d MET) n 0) (λ q l. refl)
+      (λ q l. goes k (at (d LINE) q) (small r n q l)))))
       (λ z. rw (ne-eqb o n z)
-      (entries-cong (d ORDER) (d ORDER) place place (entered m standing′ (d CLAIM) o k) (entered m (d STANDING) (d CLAIM) o k) (getD (d TAKEN) o 0) (λ q l. refl) (λ q l. refl)
-      (λ q l. stays k o (at (d ORDER) q) (small o q l) z)))
+      (waiting-cong (d LINE) (d LINE) (entered m standing′ (d CLAIM) o k) (entered m (d STANDING) (d CLAIM) o k) (getD (d MET) o 0) (λ q l. refl)
+      (λ q l. stays k o (at (d LINE) q) (small r o q l) z)))
 
   -- the entries go
   abbrev pub left : Parts
@@ -82,8 +78,8 @@ module _ {m : ℕ} {d : Parts} (ready : Ready m d) (n t : ℕ) (ln : n < nodes d
     owners = ready .owners;
     takens = ready .takens;
     small = ready .small;
-    once = ready .once;
     joined = ready .joined;
+    stands = ready .stands;
     room = ready .room;
     runs = ready .runs;
   }
@@ -95,12 +91,12 @@ module _ {m : ℕ} {d : Parts} (ready : Ready m d) (n t : ℕ) (ln : n < nodes d
     pub apply-11 : 4 ≤ p → {h : Bool} → h ≡ has-entry (view m d [] [] [] no-tally) n t → h ≡ false → (w seen : List ℕ) → Steps (view m d value seen w) (Apply n t) (view m d value seen w) (Refused 11)
     apply-11 l eh has w seen = refused (λ tally. rw (lt-ltb n (nodes d) ln, lt-ltb t 32 t32, ← read, over-tests _ p, le-leb 4 p l, ← eh, has))
 
-    pub apply-steps : 4 ≤ p → {h : Bool} → h ≡ has-entry (view m d [] [] [] no-tally) n t → h ≡ true → {w w′ : List ℕ} → Applied m d value n t w m w′ → (g : ℕ) (seen : List ℕ)
+    pub apply-steps : Trimmed d → 4 ≤ p → {h : Bool} → h ≡ has-entry (view m d [] [] [] no-tally) n t → h ≡ true → {w w′ : List ℕ} → Applied m d value n t w m w′ → (g : ℕ) (seen : List ℕ)
         → Steps (view m d value seen w) (Apply n t) (view m (store left GONE n g) value seen w′) Accepted
-    apply-steps l eh has {w′ = w′} a g seen =
+    apply-steps r l eh has {w′ = w′} a g seen =
         accepted
         (λ tally. rw (lt-ltb n (nodes d) ln, lt-ltb t 32 t32, ← read, over-tests _ p, le-leb 4 p l, ← eh, has))
-        (λ tally. same-state refl (all-applied w′ a refl) (fun-ext (λ k. leaves k (getD (d OWNER) k 0))) refl refl refl refl refl refl refl refl refl refl)
+        (λ tally. same-state refl (all-applied w′ a refl) (fun-ext (λ k. leaves r k (getD (d OWNER) k 0))) refl refl refl refl refl refl refl refl refl refl)
         (λ tally. refl)
 
   -- what the code's two changes come to
@@ -109,18 +105,24 @@ module _ {m : ℕ} {d : Parts} (ready : Ready m d) (n t : ℕ) (ln : n < nodes d
     ready-left = rw e₁ left-ready
 
     pub trimmed-left : Trimmed d → Trimmed d₁
-    trimmed-left k = rw e₁ (behind-left k (n * 32 + t) stands)
+    trimmed-left k = rw e₁ record { few = k .few; met = k .met; small = k .small; behind = behind-left (k .behind) (n * 32 + t) stands }
 
     module _ (g : ℕ) where
       pub stored : {d₂ : Parts} → d₂ ≡ store d₁ GONE n g → d₂ ≡ store left GONE n g
       stored e₂ = e₂ ∙ ap (λ (x : Parts). store x GONE n g) e₁
 
-      pub holds-left : g ≤ getD (d₁ TAKEN) n 0 → Gone (d₁ ORDER) (d₁ STANDING) n g → Holds m d (store left GONE n g)
+      pub holds-left : g ≤ getD (d₁ MET) n 0 → Gone (d₁ LINE) (d₁ STANDING) n g → Holds m d (store left GONE n g)
       holds-left l o = record {
         shaped = record { whole = whole-store (left-ready .shaped .whole) GONE n g; fits = ready .shaped .fits };
         hints = λ h k. record {
           whole = k .whole;
-          behind = behind-on (behind-left (k .behind) (n * 32 + t) stands) n g (rw (ready .shaped .whole .all GONE) node8) (rw e₁ at l) (rw e₁ at o);
+          trimmed = record {
+            few = k .trimmed .few;
+            met = k .trimmed .met;
+            small = k .trimmed .small;
+            behind = behind-on (behind-left (k .trimmed .behind) (n * 32 + t) stands) n g (rw (ready .shaped .whole .all GONE) node8) (rw e₁ at l) (rw e₁ at o);
+          };
+          lined = k .lined;
           listed = k .listed;
         };
       }

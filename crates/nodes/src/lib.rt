@@ -6,9 +6,10 @@ ghost use lib.ListN.{getD};
 ghost use lib.Bits.{bitXor};
 ghost use lib.Dec.{eqb, leb};
 ghost use Rattle.rules.specs.Bytes.{Take, Apply};
-ghost use Rattle.state.specs.Parts.{bytes, hints, STANDING, ORDER, TAKEN};
+ghost use Rattle.state.specs.Parts.{bytes, hints, STANDING, LINE, MET};
 ghost use Rattle.state.specs.Ready.{Ready, Rising, Gone, Trimmed, Hints, Table};
 ghost use Rattle.state.specs.Lent.{own, taking, applying, Moves, Keeps};
+ghost use Rattle.nodes.specs.Next.{NextLast};
 ghost use Rattle.nodes.specs.Carry.{Applied, Counts};
 use state::Answer;
 use state::COMMITTED;
@@ -16,7 +17,41 @@ use state::Session;
 use state::Verdict;
 use state::WRITTEN;
 
-// Node n takes the next save of the order.
+// Node n takes save t at its last place, which is the node's next.
+fn take_last(
+    b: &mut [u8],
+    listed: &[u16],
+    seen: &[u32],
+    w: &[u32],
+    m: usize,
+    n: u8,
+    t: u8,
+) -> Answer
+    requires { ⌜ Ready m (bytes m (now b)) × Hints m (bytes m (now b)) (hints m (now listed)) × Table 32 m (now seen) × Table 2 m (now w) × NextLast (bytes m (now b)) n t ⌝ }
+    ensures { λ r. ⌜ Moves m (taking (now (b .entry)) (now (seen .entry)) (now (w .entry))) (Take n) (taking (now (b .exit)) (now (seen .entry)) (now (w .entry))) r ⌝ }
+    ensures kept { λ _. ⌜ Keeps m (own (now (b .entry))) (own (now (b .exit))) ⌝ }
+{
+    let ni = n as usize;
+    let h = sheets::claims_here(b, listed, m, n, t);
+    if !h {
+        // With no sheet here, only the node's place in the order and in the line moves.
+        state::move_on(b, m, ni);
+        return Answer::Took(t, Verdict::Valid);
+    }
+    let v = sheets::finding(b, listed, seen, w, m, n, t);
+    let ti = t as usize;
+    state::set_standing(b, m, ni, ti, 1);
+    state::move_on(b, m, ni);
+    match v {
+        Verdict::Valid => Answer::Took(t, Verdict::Valid),
+        Verdict::Invalid(cause) => {
+            state::set_failed(b, m, ti, 1);
+            Answer::Took(t, Verdict::Invalid(cause))
+        }
+    }
+}
+
+// Node n takes the next place of the order. A former place of a save only counts.
 pub fn take(b: &mut [u8], listed: &[u16], seen: &[u32], w: &[u32], m: usize, n: u8) -> Answer
     requires { ⌜ Ready m (bytes m (now b)) × Hints m (bytes m (now b)) (hints m (now listed)) × Table 32 m (now seen) × Table 2 m (now w) ⌝ }
     ensures { λ r. ⌜ Moves m (taking (now (b .entry)) (now (seen .entry)) (now (w .entry))) (Take n) (taking (now (b .exit)) (now (seen .entry)) (now (w .entry))) r ⌝ }
@@ -33,23 +68,12 @@ pub fn take(b: &mut [u8], listed: &[u16], seen: &[u32], w: &[u32], m: usize, n: 
         return Answer::Refused(9);
     }
     let t = state::order(b, m, p as usize);
-    let h = sheets::claims_here(b, listed, m, n, t);
-    if !h {
-        // With no sheet here, only the node's place in the order moves.
-        state::move_on(b, m, ni);
+    let last = state::place(b, m, t as usize);
+    if last != p {
+        state::pass(b, m, ni);
         return Answer::Took(t, Verdict::Valid);
     }
-    let v = sheets::finding(b, listed, seen, w, m, n, t);
-    let ti = t as usize;
-    state::set_standing(b, m, ni, ti, 1);
-    state::move_on(b, m, ni);
-    match v {
-        Verdict::Valid => Answer::Took(t, Verdict::Valid),
-        Verdict::Invalid(cause) => {
-            state::fail(b, m, ti);
-            Answer::Took(t, Verdict::Invalid(cause))
-        }
-    }
+    take_last(b, listed, seen, w, m, n, t)
 }
 
 // A sheet of owner o receives the content at node n: the save's phase is p, and x says whether it wrote the sheet. All three tests are made,
@@ -99,15 +123,15 @@ fn carry_out(b: &[u8], value: &[u32], w: &mut [u32], m: usize, n: u8, t: usize)
     }
 }
 
-// The first place past those that node n has behind it whose save stands there; if there is none, as many as the node has taken.
+// The first save of the line, past those that node n has behind it, that stands there; if there is none, as many as the node has met.
 fn behind(b: &[u8], m: usize, n: usize) -> u8
     requires { ⌜ Ready m (bytes m (now b)) × Trimmed (bytes m (now b)) × (n < 8) ⌝ }
-    ensures { λ r. ⌜ (r ≤ getD (bytes m (now (b .entry)) TAKEN) n 0) × Gone (bytes m (now (b .entry)) ORDER) (bytes m (now (b .entry)) STANDING) n r ⌝ }
+    ensures { λ r. ⌜ (r ≤ getD (bytes m (now (b .entry)) MET) n 0) × Gone (bytes m (now (b .entry)) LINE) (bytes m (now (b .entry)) STANDING) n r ⌝ }
 {
-    let upto = state::taken(b, m, n);
+    let upto = state::met(b, m, n);
     let mut q = state::gone(b, m, n);
     while q < upto {
-        let u = state::order(b, m, q as usize);
+        let u = state::in_line(b, m, q as usize);
         let e = state::standing(b, m, n, u as usize);
         if e != 0 {
             return q;

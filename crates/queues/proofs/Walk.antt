@@ -1,21 +1,20 @@
--- A queue's tests by the walk over the places.
-use Prim.Native.Nat.{zero-le, ℕ, zero, suc, _+_, _-_, _*_, _≤_, _<_}
+-- A queue's tests by the walk over the line.
+use Prim.Native.Nat.{ℕ, zero, suc, _+_, _-_, _*_, _≤_, _<_}
 use mathlib.Core.Path.{_≡_, refl, sym, ap, _∙_}
-use mathlib.Core.Bool.{Bool, true, false, not, _&&_, _||_, cond, and-true, and-false, or-true}
-use mathlib.Core.Logic.{_≢_}
+use mathlib.Core.Bool.{Bool, true, false, not, _&&_, _||_, cond, and-true, or-true}
 use mathlib.Core.List.{List, [], _∷_, _++_}
 use native.Mathlib.Omega.{arith}
 use native.Mathlib.Numerals.{add-one}
 use native.Mathlib.Nat.{le-refl, add-zero, zero-add, sub-zero}
 use lib.ListN.{getD}
-use lib.Dec.{ltb, leb, eqb}
-use borrow.Author.Tests.{lt-ltb, le-ltb, ltb-true, ltb-false, eq-eqb, ne-eqb, le-leb}
-use Rattle.rules.specs.Steps.{mem, holds, before, empty, at-front, x-on, granted-as}
-use Rattle.rules.proofs.Places.{at, by, entries}
-use Rattle.rules.proofs.Table.{bool, same?}
-use Rattle.state.specs.Parts.{Parts, CLAIM, STANDING, OWNER, ORDER, PLACE, TAKEN}
-use Rattle.state.specs.View.{set?, as-claim, flat, claim-in, entered, queue-in}
-use Rattle.state.specs.Ready.{Once, Ready}
+use lib.Dec.{leb, eqb}
+use borrow.Author.Tests.{ne-eqb, le-leb}
+use Rattle.rules.specs.State.{at}
+use Rattle.rules.specs.Steps.{holds, before, empty, at-front, x-on, granted-as}
+use Rattle.rules.proofs.Table.{bool}
+use Rattle.state.specs.Parts.{Parts, CLAIM, STANDING, OWNER, LINE, MET}
+use Rattle.state.specs.View.{set?, as-claim, flat, claim-in, entered, waiting, queue-in}
+use Rattle.state.specs.Ready.{Ready, Trimmed}
 use Rattle.state.proofs.Codes.{claims-code, is-x-code}
 use Rattle.state.proofs.Stores.{flat-in}
 use Rattle.queues.specs.Walk.{halts, stop, walked, least-of}
@@ -35,7 +34,7 @@ module _ (a : ℕ → ℕ) (h : ℕ → Bool) (q upto : ℕ) where
   unfolding stop
   stop-end l = let z : upto - q ≡ 0 = omega arith in rw z
 
--- places whose saves do not pass the test are skipped
+-- saves that do not pass the test are skipped
 pub stop-skip : (a : ℕ → ℕ) (h : ℕ → Bool) (upto g : ℕ) → g ≤ upto → ((q : ℕ) → q < g → h (a q) ≡ false) → stop a h 0 upto ≡ stop a h g (upto - g)
 stop-skip a h upto zero l e = rw sub-zero
 stop-skip a h upto (suc g) l e =
@@ -46,7 +45,7 @@ unfolding stop
 stop-cong a h g q zero e = refl
 stop-cong a h g q (suc p) e = rw (e q (omega arith), stop-cong a h g (suc q) p (λ i l. e i (omega arith)))
 
--- the places' saves are rows
+-- the saves are rows
 abbrev Rows : (ℕ → ℕ) → ℕ → Type 0
 Rows a upto = (i : ℕ) → i < upto → a i < 32
 
@@ -70,16 +69,10 @@ onward-last a f q (suc p) =
     rw (onward-last a f (suc q) p, e)
     (bool (f (a q)) (λ z. rw z (bool (f (a (suc q + p))) (λ r. rw r) (λ r. rw r))) (λ z. rw z (bool (f (a (suc q + p))) (λ r. rw r) (λ r. rw r))))
 
--- each save has one place: every place counts
-by-once : (order : List ℕ) (place : ℕ → ℕ) (f : ℕ → Bool) (q : ℕ) → place (at order q) ≡ q → by order place f q ≡ f (at order q)
-unfolding by
-by-once order place f q e = rw (eq-eqb (place (at order q)) q e)
-
-entries-onward : (order : List ℕ) (place : ℕ → ℕ) (f : ℕ → Bool) (p : ℕ) → Once order place p → entries order place f p ≡ onward (at order) f 0 p
-unfolding entries onward
-entries-onward order place f zero o = refl
-entries-onward order place f (suc p) o =
-    rw (by-once order place f p (o p (le-refl (suc p))), entries-onward order place f p (λ q l. o q (omega arith)), onward-last (at order) f 0 p, zero-add p)
+waiting-onward : (line : List ℕ) (f : ℕ → Bool) (p : ℕ) → waiting line f p ≡ onward (at line) f 0 p
+unfolding waiting onward
+waiting-onward line f zero = refl
+waiting-onward line f (suc p) = rw (waiting-onward line f p, onward-last (at line) f 0 p, zero-add p)
 
 module _ (a : ℕ → ℕ) (f : ℕ → Bool) where
   -- an entry passes x
@@ -120,34 +113,31 @@ empty-none (u ∷ l) = refl
 
 -- ---- The queue of sheet k
 
-module _ {m : ℕ} {d : Parts} (ready : Ready m d) {k : ℕ} (km : k < m) where
+module _ {m : ℕ} {d : Parts} (ready : Ready m d) (trimmed : Trimmed d) {k : ℕ} (km : k < m) where
   abbrev n : ℕ
   n = getD (d OWNER) k 0
 
   abbrev upto : ℕ
-  upto = getD (d TAKEN) n 0
-
-  abbrev place : ℕ → ℕ
-  place t = getD (d PLACE) t 0
+  upto = getD (d MET) n 0
 
   -- save u has an entry
   abbrev is-in : ℕ → Bool
   is-in = entered m (d STANDING) (d CLAIM) n k
 
   abbrev queue : List ℕ
-  queue = queue-in m (d ORDER) place (d STANDING) (d CLAIM) n k upto
+  queue = queue-in m (d LINE) (d STANDING) (d CLAIM) n k upto
 
   abbrev x : ℕ → Bool
   x = x-on (claim-in m (d CLAIM)) k
 
-  small : Rows (at (d ORDER)) (0 + upto)
-  small q l = ready .small q (omega (arith, ready .takens n))
+  small : Rows (at (d LINE)) (0 + upto)
+  small q l = trimmed .small q (omega (arith, trimmed .met n))
 
-  queue-onward : queue ≡ onward (at (d ORDER)) is-in 0 upto
-  queue-onward = entries-onward (d ORDER) place is-in upto (λ q l. ready .once q (omega (arith, ready .takens n)))
+  queue-onward : queue ≡ onward (at (d LINE)) is-in 0 upto
+  queue-onward = waiting-onward (d LINE) is-in upto
 
   pub walked-small : (t least : ℕ) → walked m d k t least ≤ 32
-  walked-small t least = stop-small (at (d ORDER)) (halts m d n k t least) 0 upto small
+  walked-small t least = stop-small (at (d LINE)) (halts m d n k t least) 0 upto small
 
   halts-at : (t least u : ℕ) → halts m d n k t least u ≡ (is-in u && (eqb u t || leb least (flat m (d CLAIM) u k)))
   unfolding entered
@@ -161,10 +151,10 @@ module _ {m : ℕ} {d : Parts} (ready : Ready m d) {k : ℕ} (km : k < m) where
 
   -- the walk by what it asks of an entry
   walks : (t least : ℕ) (f : ℕ → Bool) → ((u : ℕ) → u < 32 → (is-in u && (eqb u t || leb least (flat m (d CLAIM) u k))) ≡ f u)
-      → walked m d k t least ≡ stop (at (d ORDER)) f 0 upto
+      → walked m d k t least ≡ stop (at (d LINE)) f 0 upto
   walks t least f e =
-      stop-cong (at (d ORDER)) (halts m d n k t least) f 0 upto
-      (λ i l. rw (halts-at t least (at (d ORDER) i), e (at (d ORDER) i) (small i (omega arith))))
+      stop-cong (at (d LINE)) (halts m d n k t least) f 0 upto
+      (λ i l. rw (halts-at t least (at (d LINE) i), e (at (d LINE) i) (small i (omega arith))))
 
   -- entry u is an X
   x-code : (u : ℕ) → x u ≡ leb 2 (flat m (d CLAIM) u k)
@@ -183,17 +173,17 @@ module _ {m : ℕ} {d : Parts} (ready : Ready m d) {k : ℕ} (km : k < m) where
   pub queue-holds-x : {u : ℕ} → u ≡ walked m d k 32 2 → holds x queue ≡ not (eqb u 32)
   queue-holds-x eu =
       rw (eu, queue-onward, walks 32 2 (λ u. is-in u && x u) (λ u l. rw (ne-eqb u 32 (λ e. omega arith), x-code u)))
-      (stop-holds (at (d ORDER)) is-in x 0 upto small)
+      (stop-holds (at (d LINE)) is-in x 0 upto small)
 
   pub queue-front-x : {u c : ℕ} → u ≡ walked m d k 32 1 → c ≡ getD (d CLAIM) (u * m + k) 0 → at-front x queue ≡ (not (eqb u 32) && leb 2 c)
   queue-front-x {u} eu ec =
       rw (ec, ← flat-in m (d CLAIM) u k km, ← x-code u, eu, queue-onward, walks 32 1 is-in (λ u l. some-claim u (eqb u 32)))
-      (stop-front (at (d ORDER)) is-in x 0 upto small)
+      (stop-front (at (d LINE)) is-in x 0 upto small)
 
   before-by : (t least : ℕ) (f : ℕ → Bool) → ((u : ℕ) → (is-in u && (eqb u t || leb least (flat m (d CLAIM) u k))) ≡ (is-in u && (eqb u t || f u)))
       → not (holds f (before t queue)) ≡ (eqb (walked m d k t least) 32 || eqb (walked m d k t least) t)
   before-by t least f e =
-      rw (queue-onward, walks t least (λ u. is-in u && (eqb u t || f u)) (λ u l. e u)) (stop-before (at (d ORDER)) is-in f t 0 upto small)
+      rw (queue-onward, walks t least (λ u. is-in u && (eqb u t || f u)) (λ u l. e u)) (stop-before (at (d LINE)) is-in f t 0 upto small)
 
   granted-code : (t c : ℕ) → granted-as (as-claim c) x (before t queue) ≡ (eqb c 0 || (eqb (walked m d k t (least-of c)) 32 || eqb (walked m d k t (least-of c)) t))
   granted-code t zero = refl
@@ -205,41 +195,3 @@ module _ {m : ℕ} {d : Parts} (ready : Ready m d) {k : ℕ} (km : k < m) where
   pub queue-granted : (t : ℕ) {c l u : ℕ} → c ≡ getD (d CLAIM) (t * m + k) 0 → l ≡ least-of c → u ≡ walked m d k t l
       → granted-as (claim-in m (d CLAIM) t k) x (before t queue) ≡ (eqb c 0 || (eqb u 32 || eqb u t))
   queue-granted t ec el eu = rw (eu, el, ec, flat-in m (d CLAIM) t k km) (granted-code t (getD (d CLAIM) (t * m + k) 0))
-
--- ---- A save's entry
-
-mem-end : (t : ℕ) (l : List ℕ) (u : ℕ) → mem t (l ++ u ∷ []) ≡ (mem t l || eqb u t)
-mem-end t [] u = bool (eqb u t) (λ e. rw e) (λ e. rw e)
-mem-end t (x ∷ l) u = rw (mem-end t l u) (bool (eqb x t) (λ e. rw e) (λ e. rw e))
-
--- t stands among the entries: it passes their test, and its place is one of the first p
-pub entries-mem : (order : List ℕ) (place : ℕ → ℕ) (f : ℕ → Bool) (t p : ℕ) → Once order place p
-    → mem t (entries order place f p) ≡ (f t && (ltb (place t) p && eqb (at order (place t)) t))
-unfolding entries
-entries-mem order place f t zero o = rw (le-ltb (place t) 0 zero-le) (sym (and-false (f t)))
-entries-mem order place f t (suc p) o =
-    let ih = entries-mem order place f t p (λ q l. o q (omega arith)) in
-    let op = o p (le-refl (suc p)) in
-    rw (by-once order place f p op)
-    (same? (at order p) t
-    (λ e. let pt : place t ≡ p = rw e at op in
-    bool (f t)
-    (λ y. rw (e, y, mem-end t (entries order place f p) t, eq-eqb t t refl, pt, e, eq-eqb t t refl, lt-ltb p (suc p) (omega arith)) (or-true (mem t (entries order place f p))))
-    (λ y. rw (e, y) (ih ∙ rw y)))
-    (λ z. rw (others (at order p) (ne-eqb (at order p) t z) (f (at order p)) (entries order place f p)) (ih ∙ ap (λ b. f t && b) (one-more z))))
-  where
-    others : (u : ℕ) → eqb u t ≡ false → (b : Bool) (l : List ℕ) → mem t (cond b (l ++ u ∷ []) l) ≡ mem t l
-    others u e true l = rw (mem-end t l u, e) (bool (mem t l) (λ r. rw r) (λ r. rw r))
-    others u e false l = refl
-
-    one-more : at order p ≢ t → (ltb (place t) p && eqb (at order (place t)) t) ≡ (ltb (place t) (suc p) && eqb (at order (place t)) t)
-    one-more z =
-        same? (place t) p
-        (λ e. rw (e, ne-eqb (at order p) t z, le-ltb p p (le-refl p), lt-ltb p (suc p) (omega arith)))
-        (λ n. bool (ltb (place t) p) (λ b. rw (b, lt-ltb (place t) (suc p) (later b))) (λ b. rw (b, le-ltb (place t) (suc p) (not-later n b))))
-      where
-        later : ltb (place t) p ≡ true → place t < suc p
-        later b = let l = ltb-true (place t) p b in omega arith
-
-        not-later : place t ≢ p → ltb (place t) p ≡ false → suc p ≤ place t
-        not-later n b = let l = ltb-false (place t) p b in same? (place t) p (λ e. absurd (n e)) (λ _. omega arith)

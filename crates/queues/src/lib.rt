@@ -1,6 +1,6 @@
-// The tests that the commands make of queues. A queue is not stored: its entries are the saves at the places that its node has taken,
-// with their byte in `standing` set and a claim on the sheet. One walk over those places answers every test; it starts past the places that
-// have no entry any more.
+// The tests that the commands make of queues. A queue is not stored: its entries are the saves in line that its node has met, with their byte
+// in `standing` set and a claim on the sheet. One walk over the line answers every test; it starts past the saves that have no entry any more,
+// and never looks at a place, former or last.
 ghost use Prim.Native.Nat.{_<_};
 ghost use mathlib.Core.Path.{_≡_};
 ghost use Rattle.rules.specs.Steps.{holds, at-front, x-on, granted};
@@ -38,10 +38,10 @@ fn first(b: &[u8], m: usize, k: usize, t: u8, least: u8) -> u8
     ensures { λ r. ⌜ r ≡ walked m (bytes m (now (b .entry))) k t least ⌝ }
 {
     let n = state::owner(b, m, k) as usize;
-    let upto = state::taken(b, m, n) as usize;
+    let upto = state::met(b, m, n) as usize;
     let mut q = state::gone(b, m, n) as usize;
     while q < upto {
-        let u = state::order(b, m, q);
+        let u = state::in_line(b, m, q);
         let ui = u as usize;
         let e = state::standing(b, m, n, ui);
         let c = state::claim(b, m, ui, k);

@@ -11,7 +11,7 @@ use lib.Seq.{take-suc, take-suc-set}
 use lib.Dec.{eqb, ltb}
 use borrow.Author.Tests.{ne-eqb, lt-ltb}
 use Rattle.rules.specs.Report as rules
-use Rattle.state.specs.Parts.{Parts, PHASE, RUNS, ORDER}
+use Rattle.state.specs.Parts.{Parts, PHASE, RUNS, LINE}
 use Rattle.state.specs.View.{as-phase}
 use Rattle.text.specs.Wrote.{Wrote}
 use Rattle.text.proofs.Writing.{wrote-none, wrote-next}
@@ -54,8 +54,8 @@ letter-code (suc (suc (suc (suc (suc p))))) =
     rw (ne-eqb (suc (suc (suc (suc (suc p))))) 4 (λ e. omega arith), lt-ltb 4 (suc (suc (suc (suc (suc p))))) (omega arith))
 
 -- one place on, with its save, runs, phase and letter as they are read
-pub row-more : (d : Parts) (rs : List Row) (i t r p o : ℕ) → i < length rs → i < length (d ORDER)
-    → t ≡ getD (d ORDER) i 0 → r ≡ getD (d RUNS) t 0 → p ≡ getD (d PHASE) t 0 → o ≡ rules.letter (as-phase p) → map row-of (take i rs) ≡ rows-of d i
+pub row-more : (d : Parts) (rs : List Row) (i t r p o : ℕ) → i < length rs → i < length (d LINE)
+    → t ≡ getD (d LINE) i 0 → r ≡ getD (d RUNS) t 0 → p ≡ getD (d PHASE) t 0 → o ≡ rules.letter (as-phase p) → map row-of (take i rs) ≡ rows-of d i
     → map row-of (take (i + 1) (set rs i (record { save = t; runs = r; outcome = o }))) ≡ rows-of d (i + 1)
 row-more d rs i t r p o h l save runs phase outcome m =
-    rw (outcome, phase, runs, save, add-one i, take-suc-set rs i _ h, take-suc (d ORDER) i 0 l, map-append row-of, map-append (row-in d), m)
+    rw (outcome, phase, runs, save, add-one i, take-suc-set rs i _ h, take-suc (d LINE) i 0 l, map-append row-of, map-append (row-in d), m)

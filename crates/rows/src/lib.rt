@@ -1,17 +1,17 @@
-// A state's lines. The P lines come from rows: the order of places is a list of rows, each with save, runs and outcome.
+// A state's lines. The P lines come from rows: the order of places is a list of rows, each with save, runs and outcome, by last place.
 ghost use mathlib.Core.Path.{_≡_};
 ghost use Prim.Native.Nat.{_+_, _*_, _≤_};
 ghost use mathlib.Core.List.{[], map};
 ghost use lib.ListN.{length, take};
 ghost use Rattle.rules.specs.Report as rules;
-ghost use Rattle.state.specs.Parts.{byte-sizes, bytes, ORDER};
+ghost use Rattle.state.specs.Parts.{byte-sizes, bytes, LINE};
 ghost use Rattle.state.specs.View.{as-phase, view};
-ghost use Rattle.state.specs.Ready.{Whole, Table, Small, Ready};
+ghost use Rattle.state.specs.Ready.{Whole, Table, Small, Ready, Trimmed, Lined};
 ghost use Rattle.text.specs.Wrote.{Wrote};
 ghost use Rattle.text.specs.Lines.{tally-of};
 ghost use Rattle.rows.specs.Rows.{row-of, lines-of, rows-of};
 
-// A place of the order: its save, the runs entered, the outcome's letter.
+// A last place of the order: its save, the runs entered, the outcome's letter.
 pub struct Row {
     pub save: u8,
     pub runs: u8,
@@ -62,9 +62,9 @@ fn letter(phase: u8) -> u8
     b'U'
 }
 
-// The rows of the first `count` places.
+// The rows of the first `count` saves in line.
 fn rows_of(b: &[u8], m: usize, count: usize) -> [Row; 32]
-    requires { ⌜ Whole (byte-sizes m) (bytes m (now b)) × (count ≤ 32) × Small (bytes m (now b) ORDER) count ⌝ }
+    requires { ⌜ Whole (byte-sizes m) (bytes m (now b)) × (count ≤ 32) × Small (bytes m (now b) LINE) count ⌝ }
     ensures { λ r. ⌜ map row-of (take count r) ≡ rows-of (bytes m (now (b .entry))) count ⌝ }
 {
     let none = Row {
@@ -75,7 +75,7 @@ fn rows_of(b: &[u8], m: usize, count: usize) -> [Row; 32]
     let mut rows = [none; 32];
     let mut i: usize = 0;
     while i < count {
-        let t = state::order(b, m, i);
+        let t = state::in_line(b, m, i);
         let k = t as usize;
         let r = state::runs(b, m, k);
         let o = letter(state::phase(b, m, k));
@@ -101,14 +101,14 @@ pub fn state_lines(
     first: u32,
     second: u32,
 ) -> usize
-    requires { ⌜ Ready m (bytes m (now b)) × Table 2 m (now w) × (at + 867 + 35 * m ≤ length (now buf)) ⌝ }
+    requires { ⌜ Ready m (bytes m (now b)) × Trimmed (bytes m (now b)) × Lined (bytes m (now b)) × Table 2 m (now w) × (at + 867 + 35 * m ≤ length (now buf)) ⌝ }
     ensures { λ r. ⌜
         Wrote (now (buf .entry)) at
         (rules.state-lines (view m (bytes m (now (b .entry))) [] [] (now (w .entry)) (tally-of accepted first second)))
         (867 + 35 * m) r (now (buf .exit))
         ⌝ }
 {
-    let count = state::placed(b, m) as usize;
+    let count = state::lined(b, m) as usize;
     let rows = rows_of(b, m, count);
     let e = write_rows(buf, at, rows, count);
     let f = text::sheet_lines(buf, e, w, m);

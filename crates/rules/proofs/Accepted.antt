@@ -1,29 +1,29 @@
 -- Every accepted command keeps the invariant, so it holds after any list of commands from new nodes.
 use Prim.Native.Nat.{ℕ, _<_}
 use mathlib.Core.Path.{_≡_, refl, sym, ap, _∙_}
-use mathlib.Core.Bool.{Bool, true, false, not, _&&_, cond, true≢false}
+use mathlib.Core.Bool.{Bool, true, false, not, _&&_, _||_, cond, true≢false}
 use mathlib.Core.List.{List, [], _∷_, map}
 use mathlib.Core.Option.{Option, none}
 use native.Mathlib.Omega.{arith}
 use native.Mathlib.Nat.{le-refl, not-suc-le-zero}
 use lib.ListN.{length}
 use lib.Dec.{ltb}
-use borrow.Author.Tests.{eqb-true, not-true, ltb-true}
+use borrow.Author.Tests.{eqb-true, eqb-false, not-true, lt-ltb, ltb-true}
 use Rattle.rules.specs.Sizes.{max-saves}
 use Rattle.rules.specs.Bytes.{Header, Command, Begin, Read, Write, Submit, Take, Decide, Apply, GiveUp}
-use Rattle.rules.specs.State.{Phase, unused, first, submitted, second, committed, dropped, State, fresh, is-first, running, claims}
-use Rattle.rules.specs.Steps.{mem, owns, tests, check, Checked, pass, refuse, submit-save, decide-save, effect, answer, prepend, run}
+use Rattle.rules.specs.State.{Phase, unused, first, submitted, second, committed, dropped, State, fresh, is-first, running, claims, wide}
+use Rattle.rules.specs.Steps.{mem, owns, next, next-is-last, tests, check, Checked, pass, refuse, submit-save, take-next, decide-save, effect, answer, prepend, run}
 use Rattle.rules.specs.Serial.{feed, says-again, History, no-history, commit, join, hear, heard, reads-after, first-reads}
 use Rattle.rules.specs.Demand3.{events, after, told, first-answers}
 use Rattle.rules.proofs.Table.{bool, and-l, and-r, any-at}
 use Rattle.rules.proofs.Tests.{passed-asked}
 use Rattle.rules.proofs.Places.{entries, fold, entries-out}
-use Rattle.rules.proofs.Invariant.{RunsOf, Stands, live, storing, stores, Inv}
+use Rattle.rules.proofs.Invariant.{level, RunsOf, Stands, live, storing, stores, Inv}
 use Rattle.rules.proofs.Phases.{unused-is, submitted-is}
 use Rattle.rules.proofs.Running.{keeps-begin, keeps-give-up, keeps-read, keeps-write}
 use Rattle.rules.proofs.Deciding.{keeps-resubmit, keeps-decide-commit, keeps-decide-second}
-use Rattle.rules.proofs.Joining.{keeps-join}
-use Rattle.rules.proofs.Taking.{keeps-take}
+use Rattle.rules.proofs.Joining.{level-rises, keeps-join}
+use Rattle.rules.proofs.Taking.{keeps-take, keeps-move-on}
 use Rattle.rules.proofs.Applying.{keeps-apply}
 
 -- ---- One command
@@ -53,25 +53,36 @@ pub keeps : (s : State) (l : History) (r : ℕ → ℕ → Option ℕ) (c : Comm
     → Inv (effect s c) (hear l c (says-again (answer s c))) (reads-after r c (answer s c))
 keeps s l r (Begin t) v e = let g = passed-asked (tests s (Begin t)) e in keeps-begin s l r t v (ltb-true t max-saves (g 4 .0)) (unused-is (s .phase t) (g 5 .0))
 keeps s l r (Read t k) v e =
-    let g = passed-asked (tests s (Read t k)) e in keeps-read s l r t k v (ltb-true k (s .header .sheets) (g 4 .1 .0)) (g 5 .0) (g 8 .0)
-keeps s l r (Write t k x) v e = let g = passed-asked (tests s (Write t k x)) e in keeps-write s l r t k x v (g 5 .0) (g 8 .0) (g 7 .0)
+    let g = passed-asked (tests s (Read t k)) e in keeps-read s l r t k v (ltb-true k (s .header .sheets) (g 4 .1 .0)) (g 5 .0)
+keeps s l r (Write t k x) v e = let g = passed-asked (tests s (Write t k x)) e in keeps-write s l r t k x v (g 5 .0) (g 7 .0)
 keeps s l r (Submit t) v e = let g = passed-asked (tests s (Submit t)) e in go (ltb-true t max-saves (g 4 .0)) (s .phase t) refl (g 5 .0) (v .linked .runs-right t)
   where
+    once : (m z : ℕ) → m ≡ 1 → RunsOf submitted m z
+    once m z e = (omega arith, omega arith)
+
     runs-are : l .runs t ≡ s .runs t
     runs-are = ap (λ f. f t) (v .linked .runs-same)
 
-    go : t < max-saves → (p : Phase) → s .phase t ≡ p → running p ≡ true → RunsOf (s .phase t) (s .runs t)
-        → Inv (submit-save (is-first p) s t) (cond (ltb 1 (l .runs t)) (commit l t) (join l t)) r
+    go : t < max-saves → (p : Phase) → s .phase t ≡ p → running p ≡ true → RunsOf (s .phase t) (s .runs t) (level (s .header .sheets) (s .claim t))
+        → Inv (submit-save (is-first p || wide s t) s t) (cond (ltb 1 (l .runs t) && not (l .wide t)) (commit l t) (join l t)) r
     go ht unused q y a = absurd (true≢false (sym y))
-    go ht first q y a = let a′ : l .runs t ≡ 1 = runs-are ∙ (rw q at a) in rw a′ (keeps-join s l r t v ht q)
+    go ht first q y a = let a′ : l .runs t ≡ 1 = runs-are ∙ (rw q at a) in rw a′ (keeps-join s l r t v ht (rw q) (once (s .runs t) _ (rw q at a)))
     go ht submitted q y a = absurd (true≢false (sym y))
-    go ht second q y a = let a′ : l .runs t ≡ 2 = runs-are ∙ (rw q at a) in rw a′ (keeps-resubmit s l r t _ v ht q)
+    go ht second q y a =
+        let b : RunsOf second (s .runs t) (level (s .header .sheets) (s .claim t)) = rw q at a in
+        let later : ltb 1 (l .runs t) ≡ true = lt-ltb 1 (l .runs t) (rw runs-are (b .0)) in
+        let w : l .wide t ≡ wide s t = v .linked .wide-same t (rw q) in
+        bool (wide s t)
+        (λ e. rw (later, w, e) (keeps-join s l r t v ht (rw q) (omega (arith, b .0), omega (arith, b .1, level-rises s t e))))
+        (λ e. rw (later, w, e) (keeps-resubmit s l r t _ v ht q e))
     go ht committed q y a = absurd (true≢false (sym y))
     go ht dropped q y a = absurd (true≢false (sym y))
 keeps s l r (Take n) v e =
     let g = passed-asked (tests s (Take n)) e in
     let h = ltb-true (s .taken n) (length (s .order)) (g 9 .0) in
-    keeps-take s l r n v h (v .places .only (s .taken n) h)
+    bool (next-is-last s n)
+    (λ y. rw y (keeps-take s l r n v h (eqb-true (s .place (next s n)) (s .taken n) y)))
+    (λ y. rw y (keeps-move-on s l r n v h (eqb-false (s .place (next s n)) (s .taken n) y)))
 keeps s l r (Decide t) v e =
     let g = passed-asked (tests s (Decide t)) e in
     let ht = ltb-true t max-saves (g 4 .0) in
@@ -91,7 +102,6 @@ starts h = record {
     stands = λ t y. absurd (true≢false (sym y));
     claim-stands = λ t k y. absurd (true≢false (sym y));
     claim-joined = λ t k y. absurd (true≢false (sym y));
-    only = λ q o. absurd (not-suc-le-zero o);
     placed = λ q o. absurd (not-suc-le-zero o);
     bound = λ n. le-refl 0;
     small = λ t y. absurd (true≢false (sym y));
@@ -112,6 +122,9 @@ starts h = record {
   queues = λ k. refl;
   linked = record {
     order-same = refl;
+    place-same = refl;
+    claim-same = refl;
+    wide-same = λ t y. absurd (true≢false (sym y));
     mark-same = refl;
     runs-same = refl;
     commit-same = λ t. refl;
@@ -161,6 +174,10 @@ submit-header : (s : State) (t : ℕ) (b : Bool) → submit-save b s t .header �
 submit-header s t true = refl
 submit-header s t false = refl
 
+take-header : (s : State) (n : ℕ) (b : Bool) → take-next b s n .header ≡ s .header
+take-header s n true = refl
+take-header s n false = refl
+
 decide-header : (s : State) (t : ℕ) (b : Bool) → decide-save b s t .header ≡ s .header
 decide-header s t true = refl
 decide-header s t false = refl
@@ -169,8 +186,8 @@ pub same-header : (s : State) (c : Command) → effect s c .header ≡ s .header
 same-header s (Begin t) = refl
 same-header s (Read t k) = refl
 same-header s (Write t k v) = refl
-same-header s (Submit t) = submit-header s t (is-first (s .phase t))
-same-header s (Take n) = refl
+same-header s (Submit t) = submit-header s t (is-first (s .phase t) || wide s t)
+same-header s (Take n) = take-header s n (next-is-last s n)
 same-header s (Decide t) = decide-header s t (s .failed t)
 same-header s (Apply n t) = refl
 same-header s (GiveUp t) = refl

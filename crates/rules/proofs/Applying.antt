@@ -7,11 +7,11 @@ use native.Mathlib.Omega.{arith}
 use lib.ListN.{length}
 use borrow.Author.Tests.{eqb-true, eq-eqb, ne-eqb}
 use Rattle.rules.specs.Table.{upd2}
-use Rattle.rules.specs.State.{store, State, is-committed, over, is-written, is-x}
+use Rattle.rules.specs.State.{store, State, is-committed, over, is-written, is-x, at}
 use Rattle.rules.specs.Steps.{owns, receives, apply-save}
 use Rattle.rules.specs.Serial.{History, carry-out}
 use Rattle.rules.proofs.Table.{bool, same?, cond-at, clash, upd2-at, upd2-same, upd2-other, and-l, and-r}
-use Rattle.rules.proofs.Places.{at, entries-cong, entries-without, fold-cong, fold-one}
+use Rattle.rules.proofs.Places.{entries-cong, entries-without, fold-cong, fold-one}
 use Rattle.rules.proofs.Invariant.{Stands, Locks, live, Queues, storing, stores, left-by, Inv}
 use Rattle.rules.proofs.Storing.{store-rises, store-same}
 use Rattle.rules.proofs.Phases.{committed-locked, committed-closed, x-claims}
@@ -90,6 +90,9 @@ module _ (s : State) (l : History) (r : ℕ → ℕ → Option ℕ) (n t : ℕ) 
     queues = keeps-queues;
     linked = record {
       order-same = v .linked .order-same;
+      place-same = v .linked .place-same;
+      claim-same = v .linked .claim-same;
+      wide-same = v .linked .wide-same;
       mark-same = v .linked .mark-same;
       runs-same = v .linked .runs-same;
       commit-same = v .linked .commit-same;

@@ -8,8 +8,8 @@ use native.Mathlib.Omega.{arith}
 use lib.Dec.{ltb}
 use borrow.Author.Tests.{lt-ltb, ltb-true}
 use Rattle.rules.specs.Bytes.{Take}
-use Rattle.rules.specs.State.{State, claims}
-use Rattle.rules.specs.Steps.{holds, at-front, x-on, owns, next, fails-at, finds-invalid, Rule, x-granted, x-waiting, counter-behind, Cause, rule-met, cause, cause-at, first-cause, Verdict, valid, invalid, verdict, took, Checked, pass, refuse, check, answered, step-by, step}
+use Rattle.rules.specs.State.{State, has-copy, claims}
+use Rattle.rules.specs.Steps.{holds, at-front, x-on, owns, next, next-is-last, behind, fails-at, finds-invalid, Rule, x-granted, x-waiting, counter-behind, Cause, rule-met, cause, cause-at, first-cause, Verdict, valid, invalid, verdict, found, took, Checked, pass, refuse, check, answered, step-by, step}
 use Rattle.rules.specs.Causes.{Says, FirstCause, Explains, WhyFailed}
 use Rattle.rules.proofs.Table.{bool, clash, below?, and-l, and-r, any-intro, any-fails, first-none, first-at, first-cases}
 
@@ -44,7 +44,10 @@ module _ (s : State) (n t : ℕ) where
   held k = holds (x-on (s .claim) k) (s .queue k)
 
   abbrev late : ℕ → Bool
-  late k = ltb (s .copy t k .wct) (s .sheet k .wct)
+  late k = behind s t k
+
+  abbrev older : ℕ → Bool
+  older k = ltb (s .copy t k .wct) (s .sheet k .wct)
 
   -- node n's sheet k fails
   abbrev fails : ℕ → Bool
@@ -77,7 +80,7 @@ module _ (s : State) (n t : ℕ) where
           → (f h b : Bool) → front k ≡ f → held k ≡ h → late k ≡ b → P
       go e o c w true h b ef eh eb = y x-granted (failing k x-granted e (rw ef)) o c e ef
       go e o c w false true b ef eh eb = y x-waiting (failing k x-waiting e (rw (ef, eh))) o c e (ef, eh)
-      go e o c w false false true ef eh eb = y counter-behind (failing k counter-behind e (rw (ef, eh))) o c e (eh, ltb-true (s .copy t k .wct) (s .sheet k .wct) eb)
+      go e o c w false false true ef eh eb = y counter-behind (failing k counter-behind e (rw (ef, eh))) o c e (eh, (and-l (has-copy (s .mark t k)) (older k) eb, ltb-true (s .copy t k .wct) (s .sheet k .wct) (and-r (has-copy (s .mark t k)) (older k) eb)))
       go e o c w false false false ef eh eb = clash (held k || late k) w (rw (eh, eb))
 
   -- ---- The first cause
@@ -85,10 +88,15 @@ module _ (s : State) (n t : ℕ) where
   abbrev M : ℕ
   M = s .header .sheets
 
+  -- what a verdict says at a last place
+  abbrev Tells : Verdict → Type 0
+  Tells valid = finds-invalid s n t ≡ false
+  Tells (invalid c) = (finds-invalid s n t ≡ true) × FirstCause s n t c
+
   passes : (k : ℕ) → cause-at s n t k ≡ none → fails k ≡ false
   passes k e = by-cause k (λ f. f) (λ r q o c f w. absurd (Option·none-ne-some _ (sym e ∙ q)))
 
-  is-first : (k : ℕ) (a : Cause) → k < M → cause-at s n t k ≡ some a → ((j : ℕ) → j < k → cause-at s n t j ≡ none) → Explains s n t (invalid a)
+  is-first : (k : ℕ) (a : Cause) → k < M → cause-at s n t k ≡ some a → ((j : ℕ) → j < k → cause-at s n t j ≡ none) → Tells (invalid a)
   is-first k a l e h =
       by-cause k
       (λ f. absurd (Option·none-ne-some a (sym (passing k f) ∙ e)))
@@ -105,24 +113,28 @@ module _ (s : State) (n t : ℕ) where
         },
       ))
 
-  explain : Explains s n t (verdict (first-cause s n t))
+  explain : Tells (verdict (first-cause s n t))
   explain =
       first-cases M (cause-at s n t)
       (λ h. rw (first-none M (cause-at s n t) h) (any-fails M fails (λ k l. passes k (h k l))))
       (λ k a l e h. rw (first-at M (cause-at s n t) k a l e h) (is-first k a l e h))
 
   pub found-valid : valid ≡ verdict (first-cause s n t) → finds-invalid s n t ≡ false
-  found-valid e = subst (Explains s n t) (sym e) explain
+  found-valid e = subst Tells (sym e) explain
 
   pub found-invalid : (c : Cause) → invalid c ≡ verdict (first-cause s n t) → finds-invalid s n t ≡ true
-  found-invalid c e = subst (Explains s n t) (sym e) explain .0
+  found-invalid c e = subst Tells (sym e) explain .0
+
+  at-last : next-is-last s n ≡ true → (v : Verdict) → Tells v → Explains s n t v
+  at-last y valid x = rw y x
+  at-last y (invalid c) x = rw y x
 
   -- ---- No other verdict
 
   says-fails : (k : ℕ) (r : Rule) → claims (s .claim t k) ≡ true → Says s t k r → fails-at s t k ≡ true
   says-fails k x-granted c w = rw (c, front-held (x-on (s .claim) k) (s .queue k) w)
   says-fails k x-waiting c w = rw (c, w .1)
-  says-fails k counter-behind c w = rw (c, lt-ltb (s .copy t k .wct) (s .sheet k .wct) (w .1), or-true)
+  says-fails k counter-behind c w = rw (c, w .1 .0, lt-ltb (s .copy t k .wct) (s .sheet k .wct) (w .1 .1), or-true)
 
   -- no cause is at a lower sheet than another
   not-lower : (a b : Cause) → FirstCause s n t a → FirstCause s n t b → a .sheet < b .sheet → ⊥
@@ -149,8 +161,8 @@ module _ (s : State) (n t : ℕ) where
 
   one-verdict : (v u : Verdict) → Explains s n t v → Explains s n t u → v ≡ u
   one-verdict valid valid x y = refl
-  one-verdict valid (invalid b) x y = clash (finds-invalid s n t) (y .0) x
-  one-verdict (invalid a) valid x y = clash (finds-invalid s n t) (x .0) y
+  one-verdict valid (invalid b) x y = clash (next-is-last s n && finds-invalid s n t) (y .0) x
+  one-verdict (invalid a) valid x y = clash (next-is-last s n && finds-invalid s n t) (x .0) y
   one-verdict (invalid a) (invalid b) x y = ap {B = Verdict} invalid (one-cause a b (x .1) (y .1))
 
 -- ---- The answer of a TAKE
@@ -161,8 +173,8 @@ explained s n t v e = go (check s (Take n)) e
     go : (c : Checked) → step-by c s (Take n) .result ≡ answered (took t v) → Explains s n t v
     go pass q =
         let z : next s n ≡ t = cc in
-        let w : verdict (first-cause s n (next s n)) ≡ v = cc in
-        rw (← w, ← z) (explain s n (next s n))
+        let w : found (next-is-last s n) (first-cause s n (next s n)) ≡ v = cc in
+        rw (← w, ← z) (bool (next-is-last s n) (λ y. rw y (at-last s n (next s n) y (verdict (first-cause s n (next s n))) (explain s n (next s n)))) (λ y. let x : Explains s n (next s n) valid = rw y in rw y x))
     go (refuse m) q = absurd (let z : _≡_ {A = ℕ} 0 1 = cc in omega arith)
 
 pub why-failed : WhyFailed

@@ -1,21 +1,20 @@
 -- A WCT is the count of the changes, in every state; the rest is from the invariant: level copies, and what an APPLY stores over.
 use Prim.Native.Nat.{ℕ, _+_, _≤_}
 use mathlib.Core.Path.{_≡_, refl, sym, ap, _∙_}
-use mathlib.Core.Bool.{Bool, true, false, _&&_, not, cond}
+use mathlib.Core.Bool.{Bool, true, false, _&&_, _||_, not, cond}
 use mathlib.Core.List.{List, [], _∷_}
 use mathlib.Core.Option.{Option, some}
 use native.Mathlib.Omega.{arith}
 use lib.Dec.{eqb}
 use borrow.Author.Tests.{eqb-true, eq-eqb}
 use Rattle.rules.specs.Bytes.{Header, header, Command, Begin, Read, Write, Submit, Take, Decide, Apply, GiveUp}
-use Rattle.rules.specs.State.{Sheet, store, State, fresh, is-first, is-committed, is-written, claims, is-x}
-use Rattle.rules.specs.Steps.{owns, check, Checked, pass, refuse, receives, submit-save, decide-save, effect, accepted, answered, refused, step-by, run}
+use Rattle.rules.specs.State.{Sheet, store, State, fresh, is-first, is-committed, is-written, claims, is-x, wide, at}
+use Rattle.rules.specs.Steps.{owns, next-is-last, check, Checked, pass, refuse, receives, submit-save, take-next, decide-save, effect, accepted, answered, refused, step-by, run}
 use Rattle.rules.specs.Serial.{History}
 use Rattle.rules.specs.Demand3.{after, told, first-answers, one-if-accepted, session-commands}
 use Rattle.rules.specs.Changes.{changes, commands-of, OnlyChanges, SessionChanges}
 use Rattle.rules.proofs.Table.{same?, clash, and-l, and-r}
 use Rattle.rules.proofs.Storing.{store-adds}
-use Rattle.rules.proofs.Places.{at}
 use Rattle.rules.proofs.Invariant.{Stands, Sure, Inv}
 use Rattle.rules.proofs.Phases.{committed-locked, committed-placed, committed-closed, x-claims, written-copied, sheet-shown}
 use Rattle.rules.proofs.Accepted.{applied-of, always, run-accepts, run-refuses}
@@ -39,6 +38,10 @@ module _ (s : State) (k : ℕ) where
   submit-counts t true = left-alone (s .sheet k)
   submit-counts t false = left-alone (s .sheet k)
 
+  take-counts : (n : ℕ) (b : Bool) → Counted (s .sheet k) (take-next b s n .sheet k)
+  take-counts n true = left-alone (s .sheet k)
+  take-counts n false = left-alone (s .sheet k)
+
   decide-counts : (t : ℕ) (b : Bool) → Counted (s .sheet k) (decide-save b s t .sheet k)
   decide-counts t true = left-alone (s .sheet k)
   decide-counts t false = left-alone (s .sheet k)
@@ -47,8 +50,8 @@ module _ (s : State) (k : ℕ) where
   effect-counts (Begin t) = left-alone (s .sheet k)
   effect-counts (Read t l) = left-alone (s .sheet k)
   effect-counts (Write t l v) = left-alone (s .sheet k)
-  effect-counts (Submit t) = submit-counts t (is-first (s .phase t))
-  effect-counts (Take n) = left-alone (s .sheet k)
+  effect-counts (Submit t) = submit-counts t (is-first (s .phase t) || wide s t)
+  effect-counts (Take n) = take-counts n (next-is-last s n)
   effect-counts (Decide t) = decide-counts t (s .failed t)
   effect-counts (Apply n t) = stored-if (s .sheet k) (s .copy t k .content) (receives s n t k)
   effect-counts (GiveUp t) = left-alone (s .sheet k)

@@ -13,16 +13,16 @@ use Rattle.rules.specs.Sizes.{max-nodes, max-sheets, max-session}
 use Rattle.rules.specs.Bytes.{Header, header, header-size, in-range, Command}
 use Rattle.rules.specs.State.{State}
 use Rattle.rules.specs.Steps.{Answer, answered, check, Checked, pass, refuse, effect, answer, step, run}
-use Rattle.rules.specs.Demand3.{after, told, first-answers, of-four-kinds, accepted-of, Bound, Progress, Always, session-commands, SessionDemand3}
+use Rattle.rules.specs.Demand3.{after, told, first-answers, wide-runs, of-four-kinds, accepted-of, Bound, Progress, Always, session-commands, SessionDemand3}
 use Rattle.rules.proofs.Table.{and-r, all-at}
 use Rattle.rules.proofs.Accepted.{always, header-after, run-accepts, run-refuses}
-use Rattle.rules.proofs.Serializable.{serial-reads, serial-store, two-runs}
+use Rattle.rules.proofs.Serializable.{serial-reads, serial-store, few-runs}
 use Rattle.rules.proofs.Bound.{at-most}
 use Rattle.rules.proofs.Progress.{Moves, progress}
 
 bounded : (h : Header) (cs : List Command) → Bound h cs
 bounded h cs more k = le-trans (at-most more (after h cs) (told h cs) (first-answers h cs) (always h cs) k)
-    (le-of-eq (ap₂ (λ (n : ℕ) (o : List ℕ). (2 * n + 2) * length o) (ap (λ x. x .nodes) (header-after h cs)) (sym (always h cs .linked .order-same))))
+    (le-of-eq (ap₂ (λ (n : ℕ) (o : List ℕ). (2 * n + 2) * (length o + wide-runs (after h cs))) (ap (λ x. x .nodes) (header-after h cs)) (sym (always h cs .linked .order-same))))
 
 -- a header in range has owners among its nodes
 pub owners-below : (h : Header) → in-range h ≡ true → (k : ℕ) → k < h .sheets → h .owner k < h .nodes
@@ -37,7 +37,7 @@ progresses h cs e k t m =
     accepted w = (w .0, w .1, (answer (after h cs) (w .0), rw (w .2)))
 
 pub demand3 : Always
-demand3 h cs e = record { reads = serial-reads h cs; store = serial-store h cs; runs = two-runs h cs; bound = bounded h cs; progress = progresses h cs e }
+demand3 h cs e = record { reads = serial-reads h cs; store = serial-store h cs; runs = few-runs h cs; bound = bounded h cs; progress = progresses h cs e }
 
 pub session-demand3 : (b : List ℕ) → SessionDemand3 b
 session-demand3 b e = demand3 (header b) (session-commands b) (and-r (leb (length b) max-session && leb (header-size b) (length b)) (in-range (header b)) e)

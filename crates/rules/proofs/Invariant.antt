@@ -2,16 +2,17 @@
 -- It comes in parts by what each part reads, so that a part carries over as it stands where a command leaves that alone.
 -- Words: t and u are saves, k a sheet, n a node, q a place of the order. `place t` is t's last place. Node n has carried t out
 -- once its APPLY n t was accepted, which is what `applied n t` says.
-use Prim.Native.Nat.{ℕ, _≤_, _<_}
+use Prim.Native.Nat.{ℕ, _+_, _≤_, _<_}
 use mathlib.Core.Path.{_≡_}
 use mathlib.Core.Bool.{Bool, true, false, not, _&&_}
 use mathlib.Core.List.{List}
 use mathlib.Core.Option.{Option, none, some}
 use lib.ListN.{length}
 use Rattle.rules.specs.Sizes.{max-saves}
-use Rattle.rules.specs.State.{Sheet, Phase, unused, first, submitted, second, committed, dropped, Mark, absent, Claim, State, is-unused, is-committed, over, has-copy, is-written, claims, is-x}
+use Rattle.rules.specs.State.{Sheet, Phase, unused, first, submitted, second, committed, dropped, Mark, absent, Claim, unclaimed, shared, exclusive, State, is-unused, is-second, is-committed, over, has-copy, is-written, claims, is-x, wide-by, at}
 use Rattle.rules.specs.Serial.{History}
-use Rattle.rules.proofs.Places.{at, entries, fold}
+use Rattle.rules.proofs.Table.{sum}
+use Rattle.rules.proofs.Places.{entries, fold}
 
 -- ---- Kinds of phases
 
@@ -42,23 +43,32 @@ locked second = true
 locked committed = true
 locked dropped = false
 
--- the claim covers the copies: SUBMIT made it from them, and the second run keeps within it
+-- the claim covers the copies: SUBMIT made it from them, or found them within it
 abbrev pub closed : Phase → Bool
 closed unused = false
 closed first = false
 closed submitted = true
-closed second = true
+closed second = false
 closed committed = true
 closed dropped = false
 
--- runs entered, by phase
-abbrev pub RunsOf : Phase → ℕ → Type 0
-RunsOf unused r = r ≡ 0
-RunsOf first r = r ≡ 1
-RunsOf submitted r = r ≡ 1
-RunsOf second r = r ≡ 2
-RunsOf committed r = r ≤ 2
-RunsOf dropped r = r ≤ 2
+-- the claim's size: each wide SUBMIT enlarges it
+abbrev pub rank : Claim → ℕ
+rank unclaimed = 0
+rank shared = 1
+rank exclusive = 2
+
+abbrev pub level : ℕ → (ℕ → Claim) → ℕ
+level sheets claim = sum sheets (λ k. rank (claim k))
+
+-- runs entered, by phase, with a claim of size z
+abbrev pub RunsOf : Phase → (r z : ℕ) → Type 0
+RunsOf unused r z = r ≡ 0
+RunsOf first r z = r ≡ 1
+RunsOf submitted r z = (1 ≤ r) × (r ≤ 1 + z)
+RunsOf second r z = (2 ≤ r) × (r ≤ 2 + z)
+RunsOf committed r z = r ≤ 2 + z
+RunsOf dropped r z = r ≤ 2 + z
 
 -- What a save with failed mark f at place p reads at a node that has taken m places is settled:
 -- DECIDE saw its entries granted, or the node's TAKE found it valid.
@@ -76,12 +86,11 @@ Stands order place t = (place t < length order) × (at order (place t) ≡ t)
 
 -- ---- The parts
 
--- Places. First-run SUBMIT adds one at the end, TAKE moves a node on by one.
+-- Places. SUBMIT of a first or a wide run adds one at the end, TAKE moves a node on by one.
 pub record Places (order : List ℕ) (phase : ℕ → Phase) (place : ℕ → ℕ) (claim : ℕ → ℕ → Claim) (taken : ℕ → ℕ) : Type 0 where
   pub stands : (t : ℕ) → needs-place (phase t) ≡ true → Stands order place t
   pub claim-stands : (t k : ℕ) → claims (claim t k) ≡ true → Stands order place t
   pub claim-joined : (t k : ℕ) → claims (claim t k) ≡ true → joined (phase t) ≡ true
-  pub only : (q : ℕ) → q < length order → place (at order q) ≡ q  -- no save has two places
   pub placed : (q : ℕ) → q < length order → joined (phase (at order q)) ≡ true
   pub bound : (n : ℕ) → taken n ≤ length order
   pub small : (t : ℕ) → joined (phase t) ≡ true → t < max-saves
@@ -115,13 +124,16 @@ abbrev pub Queues : (owner : ℕ → ℕ) (order : List ℕ) (place : ℕ → �
 Queues owner order place claim taken applied queue = (k : ℕ) → queue k ≡ entries order place (live owner claim applied k) (taken (owner k))
 
 -- The history and the answered READs agree with the state.
-pub record Linked (order : List ℕ) (phase : ℕ → Phase) (mark : ℕ → ℕ → Mark) (copy : ℕ → ℕ → Sheet) (runs : ℕ → ℕ) (l : History) (r : ℕ → ℕ → Option ℕ) : Type 0 where
+pub record Linked (sheets : ℕ) (order : List ℕ) (place : ℕ → ℕ) (phase : ℕ → Phase) (mark : ℕ → ℕ → Mark) (copy : ℕ → ℕ → Sheet) (claim : ℕ → ℕ → Claim) (runs : ℕ → ℕ) (l : History) (r : ℕ → ℕ → Option ℕ) : Type 0 where
   pub order-same : l .order ≡ order
+  pub place-same : l .place ≡ place
+  pub claim-same : l .claim ≡ claim
   pub mark-same : l .mark ≡ mark
   pub runs-same : l .runs ≡ runs
   pub commit-same : (t : ℕ) → l .committed t ≡ is-committed (phase t)
   pub last-same : (t k : ℕ) → is-written (mark t k) ≡ true → l .last t k ≡ copy t k .content
-  pub runs-right : (t : ℕ) → RunsOf (phase t) (runs t)
+  pub wide-same : (t : ℕ) → is-second (phase t) ≡ true → l .wide t ≡ wide-by sheets (claim t) (mark t)
+  pub runs-right : (t : ℕ) → RunsOf (phase t) (runs t) (level sheets (claim t))
   pub unread : (t k : ℕ) → has-copy (mark t k) ≡ false → r t k ≡ none
 
 -- the saves that have stored to sheet k, and those that the serial run has store to it
@@ -155,5 +167,5 @@ pub record Inv (s : State) (l : History) (r : ℕ → ℕ → Option ℕ) : Type
   pub copies : Copies (s .header .sheets) (s .phase) (s .mark) (s .claim)
   pub locks : Locks (s .header .owner) (s .phase) (s .place) (s .claim) (s .failed) (s .taken) (l .applied)
   pub queues : Queues (s .header .owner) (s .order) (s .place) (s .claim) (s .taken) (l .applied) (s .queue)
-  pub linked : Linked (s .order) (s .phase) (s .mark) (s .copy) (s .runs) l r
+  pub linked : Linked (s .header .sheets) (s .order) (s .place) (s .phase) (s .mark) (s .copy) (s .claim) (s .runs) l r
   pub values : Values s (l .applied) r

@@ -3,7 +3,7 @@ use mathlib.Core.Path.{_≡_, refl}
 use mathlib.Core.List.{List, [], _∷_, _++_}
 use Rattle.rules.specs.Table.{upd, upd2, row, all, any}
 use Rattle.rules.specs.Bytes.{Command, Begin, Read, Write, Submit, Take, Decide, Apply, ended, read-from}
-use Rattle.rules.specs.State.{fresh}
+use Rattle.rules.specs.State.{fresh, wide-by}
 use Rattle.rules.specs.Steps.{x-on, run}
 use Rattle.rules.specs.Calls.{stop}
 use Rattle.rules.specs.Report.{report}
@@ -38,7 +38,7 @@ swapped = record {
 }
 
 accepted-whole : stop (hex in-one-order) ≡ ended
-unfolding upd upd2 row all any read-from fresh x-on run stop
+unfolding upd upd2 row all any wide-by read-from fresh x-on run stop
 accepted-whole = refl
 
 pub one-report : report (hex in-another) ≡ report (hex in-one-order)

@@ -1,5 +1,5 @@
 -- What one test of a phase, a mark or a claim says of another, and the changes of one save's phase that keep the parts of the invariant.
-use Prim.Native.Nat.{ℕ, _≤_, _<_}
+use Prim.Native.Nat.{ℕ, _+_, _≤_, _<_}
 use mathlib.Core.Path.{_≡_, refl, sym, ap, _∙_}
 use mathlib.Core.Bool.{Bool, true, false, not, _&&_, _||_, true≢false, and-false, and-true}
 use mathlib.Core.List.{List}
@@ -8,10 +8,10 @@ use native.Mathlib.Omega.{arith}
 use lib.ListN.{length}
 use Rattle.rules.specs.Table.{upd}
 use Rattle.rules.specs.Sizes.{max-saves}
-use Rattle.rules.specs.State.{Phase, unused, first, submitted, second, committed, dropped, Mark, absent, copied, written, Claim, unclaimed, shared, exclusive, Tally, State, is-unused, is-second, is-submitted, is-committed, running, over, has-copy, is-written, claims, is-x}
+use Rattle.rules.specs.State.{Phase, unused, first, submitted, second, committed, dropped, Mark, absent, copied, written, Claim, unclaimed, shared, exclusive, Tally, State, is-unused, is-second, is-submitted, is-committed, running, over, has-copy, is-written, claims, is-x, at}
 use Rattle.rules.specs.Steps.{with-saves}
 use Rattle.rules.proofs.Table.{bool, same?, clash, upd-same, upd-other, upd-at, and-l, and-r}
-use Rattle.rules.proofs.Places.{at, fold-cong, fold-skip}
+use Rattle.rules.proofs.Places.{fold-cong, fold-skip}
 use Rattle.rules.proofs.Invariant.{joined, needs-place, locked, closed, RunsOf, Sure, Stands, Places, Copies, Locks, live, storing, stores, serial-at, Values}
 
 -- ---- One test of a phase from another, by looking at all six
@@ -88,21 +88,16 @@ second-is second e = refl
 second-is committed e = cc
 second-is dropped e = cc
 
-pub closed-second : (p : Phase) → running p ≡ true → closed p ≡ true → p ≡ second
-closed-second unused e f = cc
-closed-second first e f = cc
-closed-second submitted e f = cc
-closed-second second e f = refl
-closed-second committed e f = cc
-closed-second dropped e f = cc
+pub not-closed : (p : Phase) → running p ≡ true → closed p ≡ false
+not-closed = follows running closed true false refl
 
-pub runs-two : (p : Phase) (r : ℕ) → RunsOf p r → r ≤ 2
-runs-two unused r e = omega arith
-runs-two first r e = omega arith
-runs-two submitted r e = omega arith
-runs-two second r e = omega arith
-runs-two committed r e = e
-runs-two dropped r e = e
+pub runs-most : (p : Phase) (r z : ℕ) → RunsOf p r z → r ≤ 2 + z
+runs-most unused r z e = omega arith
+runs-most first r z e = omega arith
+runs-most submitted r z e = omega (arith, e .1)
+runs-most second r z e = e .1
+runs-most committed r z e = e
+runs-most dropped r z e = e
 
 -- ---- Marks and claims
 
@@ -129,7 +124,6 @@ places-phase {order} {phase} {place} {claim} {taken} t new ht j m v = record {
   stands = λ u. upd-at (λ x. needs-place x ≡ true → Stands order place u) phase t new u (λ e y. rw e (m y)) (λ _. v .stands u);
   claim-stands = v .claim-stands;
   claim-joined = λ u k c. upd-at (λ x. joined x ≡ true) phase t new u (λ e. j (rw e at (v .claim-joined u k c))) (λ _. v .claim-joined u k c);
-  only = v .only;
   placed = λ q h. upd-at (λ x. joined x ≡ true) phase t new (at order q) (λ e. j (rw e at (v .placed q h))) (λ _. v .placed q h);
   bound = v .bound;
   small = λ u. upd-at (λ x. joined x ≡ true → u < max-saves) phase t new u (λ e _. rw e ht) (λ _. v .small u);

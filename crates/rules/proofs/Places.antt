@@ -7,22 +7,18 @@ use mathlib.Core.Logic.{_≢_}
 use mathlib.Core.List.{List, [], _∷_, _++_}
 use native.Mathlib.Omega.{arith}
 use native.Mathlib.Nat.{le-refl, not-suc-le-zero}
-use lib.ListN.{length, getD, length-append, List·getD-append}
+use lib.ListN.{length, length-append, List·getD-append}
 use lib.Seq.{getD-at}
 use lib.Dec.{eqb}
 use borrow.Author.Tests.{eqb-true, eq-eqb, ne-eqb}
 use Rattle.rules.specs.Table.{upd}
-use Rattle.rules.specs.State.{Sheet, new-sheet, store}
+use Rattle.rules.specs.State.{Sheet, new-sheet, store, at, is-last}
 use Rattle.rules.specs.Steps.{mem, holds, before, without, empty}
 use Rattle.rules.proofs.Table.{bool, same?, cond-at, clash, and-l, and-r, upd-same, upd-other}
 
--- the save at a place of the order
-abbrev pub at : List ℕ → ℕ → ℕ
-at order p = getD order p 0
-
 -- a test of saves, at a place: only the last place of a save counts
 unfoldable pub by : List ℕ → (ℕ → ℕ) → (ℕ → Bool) → ℕ → Bool
-by order place f q = eqb (place (at order q)) q && f (at order q)
+by order place f q = is-last order place q && f (at order q)
 
 -- the saves of test f whose last place is before p, by last place
 unfoldable pub entries : List ℕ → (ℕ → ℕ) → (ℕ → Bool) → ℕ → List ℕ
@@ -36,7 +32,7 @@ fold order place f v (suc p) = cond (by order place f p) (store (fold order plac
 
 -- ---- one more at a list's end
 
-mem-snoc : (t : ℕ) (l : List ℕ) (u : ℕ) → mem t (l ++ u ∷ []) ≡ (mem t l || eqb u t)
+pub mem-snoc : (t : ℕ) (l : List ℕ) (u : ℕ) → mem t (l ++ u ∷ []) ≡ (mem t l || eqb u t)
 mem-snoc t [] u = or-false (eqb u t)
 mem-snoc t (x ∷ l) u = rw (mem-snoc t l u) (bool (eqb x t) (λ e. rw e) (λ e. rw e))
 
@@ -51,6 +47,23 @@ before-end t (x ∷ l) e = bool (eqb x t) (λ q. absurd (true≢false (rw q at e
 pub without-snoc : (t : ℕ) (l : List ℕ) (u : ℕ) → without t (l ++ u ∷ []) ≡ cond (eqb u t) (without t l) (without t l ++ u ∷ [])
 without-snoc t [] u = refl
 without-snoc t (x ∷ l) u = bool (eqb x t) (λ q. rw (q, without-snoc t l u)) (λ q. rw (q, without-snoc t l u) (bool (eqb u t) (λ r. rw r) (λ r. rw r)))
+
+-- ---- a list without t
+
+pub mem-without : (t : ℕ) (l : List ℕ) → mem t (without t l) ≡ false
+mem-without t [] = refl
+mem-without t (x ∷ l) = bool (eqb x t) (λ q. rw q (mem-without t l)) (λ q. rw (q, q) (mem-without t l))
+
+pub without-mem : (t u : ℕ) (l : List ℕ) → mem u (without t l) ≡ true → mem u l ≡ true
+without-mem t u [] e = e
+without-mem t u (x ∷ l) e =
+    bool (eqb x t)
+    (λ q. rw (without-mem t u l (rw q at e)) (or-true (eqb x u)))
+    (λ q. bool (eqb x u) (λ r. rw r) (λ r. rw r (without-mem t u l (rw (q, r) at e))))
+
+pub without-none : (t : ℕ) (l : List ℕ) → mem t l ≡ false → without t l ≡ l
+without-none t [] e = refl
+without-none t (x ∷ l) e = bool (eqb x t) (λ q. absurd (true≢false (rw q at e))) (λ q. rw (q, without-none t l (rw q at e)))
 
 pub or-l : (b c : Bool) → b || c ≡ false → b ≡ false
 or-l true c e = e

@@ -12,13 +12,13 @@ use borrow.Author.Tests.{eq-eqb, lt-ltb, ltb-true, ltb-false}
 use Rattle.rules.specs.Table.{any}
 use Rattle.rules.specs.Sizes.{max-saves}
 use Rattle.rules.specs.Bytes.{Command, Submit, Take, Decide, Apply}
-use Rattle.rules.specs.State.{Phase, unused, first, submitted, second, committed, dropped, Claim, unclaimed, shared, exclusive, State, is-unused, over, claims}
+use Rattle.rules.specs.State.{Phase, unused, first, submitted, second, committed, dropped, Claim, unclaimed, shared, exclusive, State, is-unused, over, claims, at}
 use Rattle.rules.specs.Steps.{mem, before, x-on, granted-as, granted, owns, has-taken, tests, check, pass}
 use Rattle.rules.specs.Serial.{History}
 use Rattle.rules.specs.Demand3.{of-four-kinds}
 use Rattle.rules.proofs.Table.{bool, clash, any-at, any-intro, any-none, all-at, all-or}
 use Rattle.rules.proofs.Tests.{passes}
-use Rattle.rules.proofs.Places.{at, or-r, entries-in, entries-before, entries-nil, by, by-in, by-out, by-test}
+use Rattle.rules.proofs.Places.{or-r, entries-in, entries-before, entries-nil, by, by-in, by-out, by-test}
 use Rattle.rules.proofs.Invariant.{joined, live, Stands, Inv}
 use Rattle.rules.proofs.Phases.{not-applied}
 use Rattle.rules.proofs.Accepted.{entry-of}

@@ -1,67 +1,107 @@
 -- The states that commands lead to from new nodes: the invariant holds, and the figures stay small.
-use Prim.Native.Nat.{ℕ, zero, suc, _≤_, _<_}
-use mathlib.Core.Path.{_≡_, refl, sym, ap, _∙_}
-use mathlib.Core.Bool.{Bool, true, false, true≢false}
-use mathlib.Core.Logic.{_≢_}
+use Prim.Native.Nat.{ℕ, zero, suc, _+_, _*_, _≤_, _<_}
+use mathlib.Core.Path.{_≡_, refl}
+use mathlib.Core.Bool.{Bool, true, false, _&&_, _||_}
 use mathlib.Core.List.{List, [], _∷_}
 use mathlib.Core.Option.{Option, none}
 use native.Mathlib.Omega.{arith}
-use native.Mathlib.Nat.{le-refl, not-suc-le-zero}
-use lib.ListN.{length}
-use lib.Dec.{eqb}
-use borrow.Author.Tests.{eqb-true, eq-eqb}
-use Rattle.rules.specs.Table.{upd, any}
+use native.Mathlib.Nat.{le-refl}
+use lib.ListN.{length, length-append}
+use lib.Dec.{eqb, ltb}
+use borrow.Author.Tests.{eqb-true, eq-eqb, lt-ltb, le-ltb, ltb-true}
+use Rattle.rules.specs.Table.{upd}
 use Rattle.rules.specs.Sizes.{max-saves}
 use Rattle.rules.specs.Bytes.{Header, Command, Begin, Read, Write, Submit, Take, Decide, Apply, GiveUp}
-use Rattle.rules.specs.State.{Sheet, store, Tally, State, fresh, is-first}
-use Rattle.rules.specs.Steps.{check, Checked, pass, refuse, counted, counted-first, counted-second, submit-save, decide-save, receives, effect, answer, step-by, step, run}
+use Rattle.rules.specs.State.{Sheet, store, Phase, first, submitted, second, committed, dropped, Tally, State, fresh, is-first, running, wide, at, is-last, by-last}
+use Rattle.rules.specs.Steps.{next-is-last, tests, check, Checked, pass, refuse, counted, counted-first, counted-second, counted-commit, submit-save, take-next, decide-save, receives, effect, answer, step-by, step, run}
 use Rattle.rules.specs.Serial.{History, no-history, says-again, hear, reads-after}
-use Rattle.rules.proofs.Table.{bool, same?, clash, upd-same, upd-other, upd-at, any-at, any-none, cond-at}
+use Rattle.rules.proofs.Table.{bool, cond-at, upd-same, upd-other, sum, sum-le, sum-rises, sum-falls, sum-bound, one, one-one}
+use Rattle.rules.proofs.Tests.{passed-asked}
 use Rattle.rules.proofs.Storing.{store-most}
-use Rattle.rules.proofs.Places.{at}
-use Rattle.rules.proofs.Invariant.{joined, Inv}
+use Rattle.rules.proofs.Places.{snoc-long}
+use Rattle.rules.proofs.LastPlaces.{lasts-few}
+use Rattle.rules.proofs.Invariant.{Inv}
 use Rattle.rules.proofs.Accepted.{keeps, starts, run-accepts, run-refuses}
+use Rattle.rules.proofs.Serializable.{runs-few}
 
--- ---- Figures: no WCT and no count of saves is above the count of accepted commands
+-- ---- Figures: no WCT and no count of saves is above the count of accepted commands, and of places there are at most half as many, since each
+-- takes a run that was entered and a SUBMIT
 
-pub record Counted (sheet : ℕ → Sheet) (a : Tally) : Type 0 where
+-- the saves that are running
+abbrev running-saves : (ℕ → Phase) → ℕ
+running-saves phase = sum max-saves (λ t. one (running (phase t)))
+
+pub record Counted (sheet : ℕ → Sheet) (phase : ℕ → Phase) (order : List ℕ) (a : Tally) : Type 0 where
   pub wct : (k : ℕ) → sheet k .wct ≤ a .accepted
   pub first : a .from-first ≤ a .accepted
   pub second : a .from-second ≤ a .accepted
+  pub places : 2 * length order + running-saves phase ≤ a .accepted
 
-module _ {sheet : ℕ → Sheet} {a : Tally} (v : Counted sheet a) where
-  more : Counted sheet (counted a)
-  more = record { wct = λ k. omega (arith, v .wct k); first = omega (arith, v .first); second = omega (arith, v .second) }
+-- one save's phase becomes another: at most one more is running, and one less where it was
+module _ (phase : ℕ → Phase) (t : ℕ) (p : Phase) where
+  enters-run : running-saves (upd phase t p) ≤ running-saves phase + 1
+  enters-run = sum-rises max-saves (λ u. one (running (upd phase t p u))) (λ u. one (running (phase u))) 1 t
+      (rw (upd-same phase t p) (omega (arith, one-one (running p)))) (λ u d. rw (upd-other phase t p u d) (le-refl (one (running (phase u)))))
 
-  more-first : Counted sheet (counted-first a)
-  more-first = record { wct = λ k. omega (arith, v .wct k); first = omega (arith, v .first); second = omega (arith, v .second) }
+  leaves-run : t < max-saves → running (phase t) ≡ true → running p ≡ false → running-saves (upd phase t p) + 1 ≤ running-saves phase
+  leaves-run ht r q = sum-falls max-saves (λ u. one (running (upd phase t p u))) (λ u. one (running (phase u))) 1 t ht
+      (rw (upd-same phase t p, r, q) (omega arith)) (λ u _ d. rw (upd-other phase t p u d) (le-refl (one (running (phase u)))))
 
-  more-second : Counted sheet (counted-second a)
-  more-second = record { wct = λ k. omega (arith, v .wct k); first = omega (arith, v .first); second = omega (arith, v .second) }
+module _ {sheet : ℕ → Sheet} {phase : ℕ → Phase} {order : List ℕ} {a : Tally} (v : Counted sheet phase order a) where
+  -- a command is accepted, with at most one running save more
+  with-phases : (phase′ : ℕ → Phase) → running-saves phase′ ≤ running-saves phase + 1 → Counted sheet phase′ order (counted a)
+  with-phases phase′ h = record { wct = λ k. omega (arith, v .wct k); first = omega (arith, v .first); second = omega (arith, v .second); places = omega (arith, v .places) }
 
-module _ (s : State) (v : Counted (s .sheet) (s .tally)) where
-  submit-counted : (t : ℕ) (b : Bool) → Counted (submit-save b s t .sheet) (submit-save b s t .tally)
-  submit-counted t true = more v
-  submit-counted t false = more-second v
+  more : Counted sheet phase order (counted a)
+  more = with-phases phase (omega arith)
 
-  decide-counted : (t : ℕ) (b : Bool) → Counted (decide-save b s t .sheet) (decide-save b s t .tally)
-  decide-counted t true = more v
-  decide-counted t false = more-first v
+  commits-first : (phase′ : ℕ → Phase) → running-saves phase′ ≤ running-saves phase + 1 → Counted sheet phase′ order (counted-first a)
+  commits-first phase′ h = record { wct = λ k. omega (arith, v .wct k); first = omega (arith, v .first); second = omega (arith, v .second); places = omega (arith, v .places) }
 
-  effect-counted : (c : Command) → Counted (effect s c .sheet) (effect s c .tally)
-  effect-counted (Begin t) = more v
-  effect-counted (Read t k) = more v
-  effect-counted (Write t k x) = more v
-  effect-counted (Submit t) = submit-counted t (is-first (s .phase t))
-  effect-counted (Take n) = more v
-  effect-counted (Decide t) = decide-counted t (s .failed t)
-  effect-counted (Apply n t) = record {
+  commits-second : (phase′ : ℕ → Phase) → running-saves phase′ ≤ running-saves phase + 1 → Counted sheet phase′ order (counted-second a)
+  commits-second phase′ h = record { wct = λ k. omega (arith, v .wct k); first = omega (arith, v .first); second = omega (arith, v .second); places = omega (arith, v .places) }
+
+module _ (s : State) (v : Counted (s .sheet) (s .phase) (s .order) (s .tally)) where
+  abbrev After : State → Type 0
+  After s′ = Counted (s′ .sheet) (s′ .phase) (s′ .order) (s′ .tally)
+
+  commit-counted : (t : ℕ) (b : Bool) → Counted (s .sheet) (upd (s .phase) t committed) (s .order) (counted-commit b (s .tally))
+  commit-counted t true = commits-second v (upd (s .phase) t committed) (enters-run (s .phase) t committed)
+  commit-counted t false = commits-first v (upd (s .phase) t committed) (enters-run (s .phase) t committed)
+
+  take-counted : (n : ℕ) (b : Bool) → After (take-next b s n)
+  take-counted n true = more v
+  take-counted n false = more v
+
+  submit-counted : (t : ℕ) (b : Bool) → t < max-saves → running (s .phase t) ≡ true → After (submit-save b s t)
+  submit-counted t true ht r = record {
+    wct = more v .wct;
+    first = more v .first;
+    second = more v .second;
+    places = rw (snoc-long (s .order) (s .place) t) (omega (arith, v .places, leaves-run (s .phase) t submitted ht r refl));
+  }
+  submit-counted t false ht r = commits-second v (upd (s .phase) t committed) (enters-run (s .phase) t committed)
+
+  decide-counted : (t : ℕ) (b : Bool) → After (decide-save b s t)
+  decide-counted t true = with-phases v (upd (s .phase) t second) (enters-run (s .phase) t second)
+  decide-counted t false = commit-counted t (ltb 1 (s .runs t))
+
+  effect-counted : (c : Command) → check s c ≡ pass → After (effect s c)
+  effect-counted (Begin t) e = with-phases v (upd (s .phase) t first) (enters-run (s .phase) t first)
+  effect-counted (Read t k) e = more v
+  effect-counted (Write t k x) e = more v
+  effect-counted (Submit t) e =
+      let g = passed-asked (tests s (Submit t)) e in submit-counted t (is-first (s .phase t) || wide s t) (ltb-true t max-saves (g 4 .0)) (g 5 .0)
+  effect-counted (Take n) e = take-counted n (next-is-last s n)
+  effect-counted (Decide t) e = decide-counted t (s .failed t)
+  effect-counted (Apply n t) e = record {
     wct = λ k. cond-at (λ c. c .wct ≤ suc (s .tally .accepted)) (receives s n t k) (store (s .sheet k) (s .copy t k .content)) (s .sheet k)
         (λ _. omega (arith, v .wct k, store-most (s .sheet k) (s .copy t k .content))) (λ _. omega (arith, v .wct k));
     first = more v .first;
     second = more v .second;
+    places = more v .places;
   }
-  effect-counted (GiveUp t) = more v
+  effect-counted (GiveUp t) e = with-phases v (upd (s .phase) t dropped) (enters-run (s .phase) t dropped)
 
 -- ---- States that commands lead to
 
@@ -69,7 +109,7 @@ pub record Reached (s : State) : Type 0 where
   pub history : History
   pub reads : ℕ → ℕ → Option ℕ
   pub inv : Inv s history reads
-  pub figures : Counted (s .sheet) (s .tally)
+  pub figures : Counted (s .sheet) (s .phase) (s .order) (s .tally)
 
 pub reached-fresh : (h : Header) → Reached (fresh h)
 unfolding fresh
@@ -77,8 +117,11 @@ reached-fresh h = record {
   history = no-history;
   reads = λ t k. none;
   inv = starts h;
-  figures = record { wct = λ k. le-refl 0; first = le-refl 0; second = le-refl 0 };
+  figures = record { wct = λ k. le-refl 0; first = le-refl 0; second = le-refl 0; places = none-running };
 }
+  where
+    none-running : 2 * 0 + sum max-saves (λ t. 0) ≤ 0
+    none-running = omega (arith, sum-bound max-saves 0 (λ t. 0) (λ t _. le-refl 0))
 
 pub reached-step : (s : State) (c : Command) → Reached s → Reached (step s c .state)
 reached-step s c v = go (check s c) refl
@@ -88,7 +131,7 @@ reached-step s c v = go (check s c) refl
       history = hear (v .history) c (says-again (answer s c));
       reads = reads-after (v .reads) c (answer s c);
       inv = keeps s (v .history) (v .reads) c (v .inv) e;
-      figures = effect-counted s (v .figures) c;
+      figures = effect-counted s (v .figures) c e;
     }
     go (refuse n) e = v
 
@@ -101,60 +144,13 @@ reached-run (c ∷ cs) s v = go (check s c) refl (reached-run cs) (reached-step 
     go pass e f r = rw (run-accepts s c cs e) (f (effect s c) (rw e at r))
     go (refuse n) e f r = rw (run-refuses s c cs n e) v
 
--- ---- The order never outgrows the saves
-
--- distinct numbers below m are at most m
-pub pigeon : (m n : ℕ) (a : ℕ → ℕ) → ((p : ℕ) → p < n → a p < m) → ((p q : ℕ) → p < n → q < n → a p ≡ a q → p ≡ q) → n ≤ m
-pigeon zero zero a h k = le-refl 0
-pigeon zero (suc n) a h k = absurd (not-suc-le-zero (h 0 (omega arith)))
-pigeon (suc m) zero a h k = omega arith
-pigeon (suc m) (suc n) a h k =
-    bool (any n (λ p. eqb (a p) m))
-    (λ y. any-at n (λ p. eqb (a p) m) y (λ p o e.
-    -- the last number goes to the place of m
-    let r : a p ≡ m = eqb-true (a p) m e in
-    let ne : a n ≢ m = λ z. apart o (k p n (omega arith) (le-refl (suc n)) (r ∙ sym z)) in
-    let ih = pigeon m n (upd a p (a n))
-    (λ q l. upd-at (λ x. x < m) a p (a n) q (λ _. below (h n (le-refl (suc n))) ne) (λ d. below (h q (omega arith)) (λ z. d (k q p (omega arith) (omega arith) (z ∙ sym r)))))
-    (λ q w l l′. same? q p
-    (λ z. same? w p (λ z′ _. z ∙ sym z′) (λ d′. rw (z, upd-same a p (a n), upd-other a p (a n) w d′) (λ s. absurd (apart l′ (sym (k n w (le-refl (suc n)) (omega arith) s))))))
-    (λ d. same? w p (λ z′. rw (z′, upd-same a p (a n), upd-other a p (a n) q d) (λ s. absurd (apart l (k q n (omega arith) (le-refl (suc n)) s))))
-    (λ d′. rw (upd-other a p (a n) q d, upd-other a p (a n) w d′) (k q w (omega arith) (omega arith))))) in
-    omega arith))
-    (λ y. let ih = pigeon m n a (λ q l. below (h q (omega arith)) (λ z. clash (eqb (a q) m) (eq-eqb (a q) m z) (any-none n (λ p. eqb (a p) m) y q l)))
-    (λ q w l l′. k q w (omega arith) (omega arith)) in omega arith)
-  where
-    below : {x : ℕ} → x < suc m → x ≢ m → x < m
-    below l d = omega arith
-
-    apart : {x : ℕ} → x < n → x ≡ n → ⊥
-    apart l e = omega arith
-
 module _ (s : State) (v : Reached s) where
-  apart : (p q : ℕ) → p < length (s .order) → q < length (s .order) → at (s .order) p ≡ at (s .order) q → p ≡ q
-  apart p q h k e = sym (v .inv .places .only p h) ∙ ap (s .place) e ∙ v .inv .places .only q k
+  pub rows-fit : length (by-last (s .order) (s .place) (length (s .order))) ≤ max-saves
+  rows-fit = lasts-few (s .order) (s .place) (length (s .order)) (λ q h. v .inv .places .small (at (s .order) q) (v .inv .places .placed q h))
 
-  small : (p : ℕ) → p < length (s .order) → at (s .order) p < max-saves
-  small p h = v .inv .places .small (at (s .order) p) (v .inv .places .placed p h)
+  -- a running save finds a place
+  pub places-fit : (t : ℕ) → t < max-saves → running (s .phase t) ≡ true → 2 * length (s .order) + 1 ≤ s .tally .accepted
+  places-fit t h e = omega (arith, v .figures .places, sum-falls max-saves (λ u. 0) (λ u. one (running (s .phase u))) 1 t h (rw e (omega arith)) (λ u _ _. omega arith))
 
-  pub order-fits : length (s .order) ≤ max-saves
-  order-fits = pigeon max-saves (length (s .order)) (at (s .order)) small apart
-
-  -- a save that has not joined is one more than those that have
-  pub room : (t : ℕ) → t < max-saves → joined (s .phase t) ≡ false → length (s .order) < max-saves
-  room t h j =
-      pigeon max-saves (suc n) (upd a n t)
-      (λ p l. upd-at (λ x. x < max-saves) a n t p (λ _. h) (λ d. small p (omega arith)))
-      (λ p q l m. same? p n
-      (λ e. same? q n (λ f _. e ∙ sym f) (λ d. rw (e, upd-same a n t, upd-other a n t q d) (λ z. absurd (absent q (omega arith) z))))
-      (λ d. same? q n (λ f. rw (f, upd-same a n t, upd-other a n t p d) (λ z. absurd (absent p (omega arith) (sym z))))
-      (λ k. rw (upd-other a n t p d, upd-other a n t q k) (apart p q (omega arith) (omega arith)))))
-    where
-      n : ℕ
-      n = length (s .order)
-
-      a : ℕ → ℕ
-      a = at (s .order)
-
-      absent : (p : ℕ) → p < length (s .order) → t ≡ at (s .order) p → ⊥
-      absent p l z = true≢false (sym (v .inv .places .placed p l) ∙ rw (← z) j)
+  pub runs-fit : (t : ℕ) → s .runs t ≤ 2 + 2 * s .header .sheets
+  runs-fit t = rw (v .inv .linked .runs-same) at (runs-few s (v .history) (v .reads) (v .inv) t)

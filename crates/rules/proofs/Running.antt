@@ -7,16 +7,16 @@ use mathlib.Core.Option.{Option, none, some}
 use native.Mathlib.Omega.{arith}
 use native.Mathlib.Nat.{le-refl}
 use lib.ListN.{length}
-use Rattle.rules.specs.Table.{upd, upd2, row}
+use Rattle.rules.specs.Table.{upd, upd2, row, any}
 use Rattle.rules.specs.Sizes.{max-saves}
 use Rattle.rules.specs.Bytes.{Begin, Read, Write, GiveUp}
-use Rattle.rules.specs.State.{Sheet, Phase, unused, first, submitted, second, committed, dropped, Mark, absent, copied, written, State, is-unused, is-first, is-committed, running, over, has-copy, is-written, claims, is-x}
+use Rattle.rules.specs.State.{Sheet, Phase, unused, first, submitted, second, committed, dropped, Mark, absent, copied, written, Claim, unclaimed, shared, exclusive, State, is-unused, is-second, is-committed, running, over, has-copy, is-written, claims, is-x, wider, wide-by, wide, at}
 use Rattle.rules.specs.Steps.{read-mark, read-copy, effect, content-is}
 use Rattle.rules.specs.Serial.{History, hear, enters, first-answer}
-use Rattle.rules.proofs.Table.{bool, same?, same2?, clash, upd-same, upd-other, upd-at, upd2-at, upd2-same, upd2-other, row-at}
-use Rattle.rules.proofs.Places.{at, fold-own}
-use Rattle.rules.proofs.Invariant.{RunsOf, Sure, storing, stores, left-by, serial-at, Inv}
-use Rattle.rules.proofs.Phases.{not-over, running-not-over, running-used, committed-locked, committed-placed, closed-second, runs-two, written-copied, not-applied, places-phase, copies-phase, locks-phase, values-phase, sheet-shown}
+use Rattle.rules.proofs.Table.{bool, same?, same2?, clash, upd-same, upd-other, upd-at, upd2-at, upd2-same, upd2-other, row-at, any-cong, any-more}
+use Rattle.rules.proofs.Places.{fold-own}
+use Rattle.rules.proofs.Invariant.{closed, level, RunsOf, Sure, storing, stores, left-by, serial-at, Inv}
+use Rattle.rules.proofs.Phases.{not-over, running-not-over, running-used, committed-locked, committed-placed, not-closed, runs-most, written-copied, not-applied, places-phase, copies-phase, locks-phase, values-phase, sheet-shown}
 
 -- ---- BEGIN
 
@@ -29,6 +29,9 @@ keeps-begin s l r t v ht u = rw no-reads (record {
   queues = v .queues;
   linked = record {
     order-same = v .linked .order-same;
+    place-same = v .linked .place-same;
+    claim-same = v .linked .claim-same;
+    wide-same = λ x. same? x t (λ e. rw e (simp upd-same (λ z. absurd (true≢false (sym z))))) (λ n. simp upd-other (v .linked .wide-same x));
     mark-same = fun-ext (λ x. fun-ext (λ k. row-at (λ m. m ≡ s .mark x k) (l .mark) t (λ k. absent) x k (λ e. rw e (sym (none-yet k))) (λ _. ap (λ f. f x k) (v .linked .mark-same))));
     runs-same = rw (v .linked .runs-same);
     commit-same = λ x. upd-at (λ y. l .committed x ≡ is-committed y) (s .phase) t first x (λ e. rw (e, v .linked .commit-same t, u)) (λ _. v .linked .commit-same x);
@@ -55,11 +58,14 @@ keeps-give-up s l r t v ht y = record {
   queues = v .queues;
   linked = record {
     order-same = v .linked .order-same;
+    place-same = v .linked .place-same;
+    claim-same = v .linked .claim-same;
+    wide-same = λ x. upd-at (λ y. is-second y ≡ true → l .wide x ≡ wide s x) (s .phase) t dropped x (λ _ z. absurd (true≢false (sym z))) (λ _. v .linked .wide-same x);
     mark-same = v .linked .mark-same;
     runs-same = v .linked .runs-same;
     commit-same = λ x. upd-at (λ y. l .committed x ≡ is-committed y) (s .phase) t dropped x (λ e. rw (e, v .linked .commit-same t) (not-over (s .phase t) end)) (λ _. v .linked .commit-same x);
     last-same = v .linked .last-same;
-    runs-right = λ x. upd-at (λ y. RunsOf y (s .runs x)) (s .phase) t dropped x (λ e. runs-two (s .phase x) (s .runs x) (v .linked .runs-right x)) (λ n. v .linked .runs-right x);
+    runs-right = λ x. upd-at (λ y. RunsOf y (s .runs x) (level (s .header .sheets) (s .claim x))) (s .phase) t dropped x (λ e. runs-most (s .phase x) (s .runs x) (level (s .header .sheets) (s .claim x)) (v .linked .runs-right x)) (λ n. v .linked .runs-right x);
     unread = v .linked .unread;
   };
   values = values-phase s (l .applied) r t dropped (s .runs) _ end (λ k y c x. absurd x) (λ y. absurd (true≢false (sym y))) (v .locks) (v .values);
@@ -111,8 +117,37 @@ sure-second second f q m r x = refl
 sure-second committed f q m r x = cc
 sure-second dropped f q m r x = absurd x
 
-module _ (s : State) (l : History) (r : ℕ → ℕ → Option ℕ) (t k : ℕ) (v : Inv s l r) (hk : k < s .header .sheets) (y : running (s .phase t) ≡ true)
-    (c8 : is-first (s .phase t) || claims (s .claim t k) ≡ true) where
+-- the history's word on a wide run, where t's mark of sheet k becomes m
+touched : (s : State) (l : History) (r : ℕ → ℕ → Option ℕ) (t k : ℕ) (m : Mark) → Inv s l r → k < s .header .sheets → (wider (s .claim t k) (s .mark t k) ≡ true → wider (s .claim t k) m ≡ true)
+    → (u : ℕ) → is-second (s .phase u) ≡ true → upd (l .wide) t (l .wide t || wider (s .claim t k) m) u ≡ wide-by (s .header .sheets) (s .claim u) (upd2 (s .mark) t k m u)
+unfolding wide-by
+touched s l r t k m v hk up u y = same? u t
+    (λ e. rw (e, upd-same (l .wide) t (l .wide t || wider (s .claim t k) m)) (rw (v .linked .wide-same t (rw e at y)) (sym (grows (rw (upd2-same (s .mark) t k m) up) ∙ rw (upd2-same (s .mark) t k m)))))
+    (λ d. rw (upd-other (l .wide) t (l .wide t || wider (s .claim t k) m) u d) (v .linked .wide-same u y ∙ any-cong (s .header .sheets) (λ j. wider (s .claim u j) (s .mark u j)) (λ j. wider (s .claim u j) (upd2 (s .mark) t k m u j))
+    (λ j _. rw (upd2-other (s .mark) t k m u j (λ e _. d e)))))
+  where
+    f : ℕ → Bool
+    f j = wider (s .claim t j) (s .mark t j)
+
+    g : ℕ → Bool
+    g j = wider (s .claim t j) (upd2 (s .mark) t k m t j)
+
+    grows : (f k ≡ true → g k ≡ true) → any (s .header .sheets) g ≡ (any (s .header .sheets) f || g k)
+    grows h = any-more (s .header .sheets) f g k hk (λ j d. rw (upd2-other (s .mark) t k m t j (λ _ z. d z))) h
+
+read-wider : (c : Claim) (m : Mark) → wider c m ≡ true → wider c (read-mark m) ≡ true
+read-wider c absent e = absurd (true≢false (sym e))
+read-wider c copied e = e
+read-wider c written e = e
+
+write-wider : (c : Claim) (m : Mark) → wider c m ≡ true → wider c written ≡ true
+write-wider c absent e = absurd (true≢false (sym e))
+write-wider unclaimed copied e = refl
+write-wider shared copied e = refl
+write-wider exclusive copied e = e
+write-wider c written e = e
+
+module _ (s : State) (l : History) (r : ℕ → ℕ → Option ℕ) (t k : ℕ) (v : Inv s l r) (hk : k < s .header .sheets) (y : running (s .phase t) ≡ true) where
   abbrev m : Mark
   m = s .mark t k
 
@@ -156,7 +191,7 @@ module _ (s : State) (l : History) (r : ℕ → ℕ → Option ℕ) (t k : ℕ) 
       copied-range = λ u j. upd2-at (λ m. has-copy m ≡ true → j < s .header .sheets) (s .mark) t k (read-mark m) u j (λ _ e _. rw e hk) (λ _. v .copies .copied-range u j);
       claim-range = v .copies .claim-range;
       copied-claimed = λ u j c. upd2-at (λ m. has-copy m ≡ true → claims (s .claim u j) ≡ true) (s .mark) t k (read-mark m) u j
-          (λ e e′ _. rw (e, e′) (rw (closed-second (s .phase t) y (rw e at c)) at c8)) (λ _. v .copies .copied-claimed u j c);
+          (λ e e′ _. clash (closed (s .phase t)) (rw e at c) (not-closed (s .phase t) y)) (λ _. v .copies .copied-claimed u j c);
       written-x = λ u j c. upd2-at (λ m. is-written m ≡ true → is-x (s .claim u j) ≡ true) (s .mark) t k (read-mark m) u j
           (λ e e′ w. rw (e, e′) (v .copies .written-x t k (rw e at c) (sym (read-written m) ∙ w))) (λ _. v .copies .written-x u j c);
       unused-absent = λ u j z. upd2-at (λ m. m ≡ absent) (s .mark) t k (read-mark m) u j (λ e _. clash (is-unused (s .phase t)) (rw e at z) (running-used (s .phase t) y)) (λ _. v .copies .unused-absent u j z);
@@ -165,6 +200,9 @@ module _ (s : State) (l : History) (r : ℕ → ℕ → Option ℕ) (t k : ℕ) 
     queues = v .queues;
     linked = record {
       order-same = v .linked .order-same;
+      place-same = v .linked .place-same;
+      claim-same = v .linked .claim-same;
+      wide-same = rw (v .linked .claim-same, v .linked .mark-same) (touched s l r t k (read-mark m) v hk (read-wider (s .claim t k) m));
       mark-same = rw (v .linked .mark-same);
       runs-same = v .linked .runs-same;
       commit-same = v .linked .commit-same;
@@ -194,7 +232,7 @@ module _ (s : State) (l : History) (r : ℕ → ℕ → Option ℕ) (t k : ℕ) 
 
 -- ---- WRITE
 
-module _ (s : State) (l : History) (r : ℕ → ℕ → Option ℕ) (t k x : ℕ) (v : Inv s l r) (y : running (s .phase t) ≡ true) (c8 : is-first (s .phase t) || is-x (s .claim t k) ≡ true)
+module _ (s : State) (l : History) (r : ℕ → ℕ → Option ℕ) (t k x : ℕ) (v : Inv s l r) (y : running (s .phase t) ≡ true)
     (c7 : has-copy (s .mark t k) ≡ true) where
   abbrev w′ : State
   w′ = effect s (Write t k x)
@@ -219,13 +257,16 @@ module _ (s : State) (l : History) (r : ℕ → ℕ → Option ℕ) (t k x : ℕ
       copied-claimed = λ u j c. upd2-at (λ m. has-copy m ≡ true → claims (s .claim u j) ≡ true) (s .mark) t k written u j
           (λ e e′ _. rw (e, e′) (v .copies .copied-claimed t k (rw e at c) c7)) (λ _. v .copies .copied-claimed u j c);
       written-x = λ u j c. upd2-at (λ m. is-written m ≡ true → is-x (s .claim u j) ≡ true) (s .mark) t k written u j
-          (λ e e′ _. rw (e, e′) (rw (closed-second (s .phase t) y (rw e at c)) at c8)) (λ _. v .copies .written-x u j c);
+          (λ e e′ _. clash (closed (s .phase t)) (rw e at c) (not-closed (s .phase t) y)) (λ _. v .copies .written-x u j c);
       unused-absent = λ u j z. upd2-at (λ m. m ≡ absent) (s .mark) t k written u j (λ e _. clash (is-unused (s .phase t)) (rw e at z) (running-used (s .phase t) y)) (λ _. v .copies .unused-absent u j z);
     };
     locks = v .locks;
     queues = v .queues;
     linked = record {
       order-same = v .linked .order-same;
+      place-same = v .linked .place-same;
+      claim-same = v .linked .claim-same;
+      wide-same = rw (v .linked .claim-same) (touched s l r t k written v (v .copies .copied-range t k c7) (write-wider (s .claim t k) (s .mark t k)));
       mark-same = rw (v .linked .mark-same);
       runs-same = v .linked .runs-same;
       commit-same = v .linked .commit-same;

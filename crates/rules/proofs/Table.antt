@@ -1,14 +1,14 @@
 -- Laws of tables as functions, of tests over numbers, and of sums. Case splits that remember their equation.
 use Prim.Native.Nat.{ℕ, zero, suc, _+_, _*_, _≤_, _<_}
-use mathlib.Core.Path.{_≡_, refl, sym, _∙_}
-use mathlib.Core.Bool.{Bool, true, false, _&&_, cond, true≢false, or-true}
+use mathlib.Core.Path.{_≡_, refl, sym, ap, _∙_}
+use mathlib.Core.Bool.{Bool, true, false, _&&_, _||_, cond, true≢false, or-true, or-false}
 use mathlib.Core.Logic.{_≢_}
 use mathlib.Core.Option.{Option, none, some, orElse}
 use native.Mathlib.Omega.{arith}
 use native.Mathlib.Nat.{not-suc-le-zero, le-refl}
 use lib.Dec.{ltb, eqb}
 use borrow.Author.Tests.{ltb-true, ltb-false, eqb-true, eqb-false, eq-eqb, ne-eqb}
-use Rattle.rules.specs.Table.{upd, upd2, row, all, any, first-below}
+use Rattle.rules.specs.Table.{upd, upd2, row, all, any, count, first-below}
 
 -- ---- Bool with a remembered equation
 pub bool : {P : Type 0} (b : Bool) → (b ≡ true → P) → (b ≡ false → P) → P
@@ -148,6 +148,17 @@ module _ {A : Type 0} where
       here none e h = x (λ i l. same? i n (λ q. rw q e) (λ q. h i (omega arith)))
       here (some a) e h = y n a (le-refl (suc n)) e h
 
+pub any-cong : (n : ℕ) (f g : ℕ → Bool) → ((i : ℕ) → i < n → f i ≡ g i) → any n f ≡ any n g
+unfolding any
+any-cong zero f g h = refl
+any-cong (suc n) f g h = rw (h n (le-refl (suc n)), any-cong n f g (λ i o. h i (omega arith)))
+
+-- one number's test may come to pass
+pub any-more : (n : ℕ) (f g : ℕ → Bool) (k : ℕ) → k < n → ((i : ℕ) → i ≢ k → g i ≡ f i) → (f k ≡ true → g k ≡ true) → any n g ≡ (any n f || g k)
+any-more n f g k o h m =
+    bool (g k) (λ e. any-intro n g k o e ∙ sym (ap (λ b. any n f || b) e ∙ or-true (any n f)))
+    (λ e. any-cong n g f (λ i _. same? i k (λ z. rw z (e ∙ sym (bool (f k) (λ y. clash (g k) (m y) e) (λ y. y)))) (h i)) ∙ sym (ap (λ b. any n f || b) e ∙ or-false (any n f)))
+
 -- ---- sums
 
 unfoldable pub sum : ℕ → (ℕ → ℕ) → ℕ
@@ -168,12 +179,34 @@ sum-falls (suc n) f g x i o h k =
     (λ e. omega (arith, sum-le n f g (λ j r. k j (omega arith) (omega arith)), rw e at h))
     (λ d. omega (arith, sum-falls n f g x i (omega arith) h (λ j r. k j (omega arith)), k n (le-refl (suc n)) (λ e. d (sym e))))
 
+-- one summand rises by at most x and no other does
+pub sum-rises : (n : ℕ) (f g : ℕ → ℕ) (x i : ℕ) → f i ≤ g i + x → ((j : ℕ) → j ≢ i → f j ≤ g j) → sum n f ≤ sum n g + x
+unfolding sum
+sum-rises zero f g x i h k = omega arith
+sum-rises (suc n) f g x i h k =
+    same? i n
+    (λ e. omega (arith, sum-le n f g (λ j o. k j (λ z. omega arith)), rw e at h))
+    (λ d. omega (arith, sum-rises n f g x i h k, k n (λ e. d (sym e))))
+
 pub sum-bound : (n c : ℕ) (f : ℕ → ℕ) → ((i : ℕ) → i < n → f i ≤ c) → sum n f ≤ n * c
 unfolding sum
 sum-bound zero c f h = omega arith
 sum-bound (suc n) c f h = omega (arith, sum-bound n c f (λ i o. h i (omega arith)), h n (le-refl (suc n)))
 
-pub sum-times : (n a : ℕ) (f g : ℕ → ℕ) → ((i : ℕ) → i < n → f i ≤ a * g i) → sum n f ≤ a * sum n g
+pub sum-two : (n a b : ℕ) (f g w : ℕ → ℕ) → ((i : ℕ) → i < n → f i ≤ a * g i + b * w i) → sum n f ≤ a * sum n g + b * sum n w
 unfolding sum
-sum-times zero a f g h = omega arith
-sum-times (suc n) a f g h = omega (arith, sum-times n a f g (λ i o. h i (omega arith)), h n (le-refl (suc n)))
+sum-two zero a b f g w h = omega arith
+sum-two (suc n) a b f g w h = omega (arith, sum-two n a b f g w (λ i o. h i (omega arith)), h n (le-refl (suc n)))
+
+abbrev pub one : Bool → ℕ
+one true = 1
+one false = 0
+
+pub one-one : (b : Bool) → one b ≤ 1
+one-one true = omega arith
+one-one false = omega arith
+
+pub count-sum : (n : ℕ) (f : ℕ → Bool) → count n f ≡ sum n (λ i. one (f i))
+unfolding count sum
+count-sum zero f = refl
+count-sum (suc n) f = rw (count-sum n f) (bool (f n) (λ e. rw e) (λ e. rw e))

@@ -9,11 +9,11 @@ use lib.ListN.{length}
 use lib.Dec.{ltb}
 use borrow.Author.Tests.{eq-eqb, ne-eqb, ltb-false}
 use Rattle.rules.specs.Table.{upd}
-use Rattle.rules.specs.State.{Phase, unused, first, submitted, second, committed, dropped, State, has-copy, claims, is-x}
-use Rattle.rules.specs.Steps.{holds, x-on, owns, fails-at, finds-invalid, take-save}
+use Rattle.rules.specs.State.{Phase, unused, first, submitted, second, committed, dropped, State, has-copy, claims, is-x, at}
+use Rattle.rules.specs.Steps.{holds, x-on, owns, fails-at, finds-invalid, take-save, move-on}
 use Rattle.rules.specs.Serial.{History}
 use Rattle.rules.proofs.Table.{bool, same?, below?, upd-same, upd-other, upd-at, any-none}
-use Rattle.rules.proofs.Places.{at, by, entries, or-l, or-r, holds-mem, entries-in}
+use Rattle.rules.proofs.Places.{by, by-former, entries, or-l, or-r, holds-mem, entries-in}
 use Rattle.rules.proofs.Invariant.{Sure, Places, live, Queues, storing, stores, serial-at, Values, Inv}
 use Rattle.rules.proofs.Phases.{x-claims, live-not, sheet-shown}
 
@@ -64,11 +64,43 @@ module _ (s : State) (l : History) (r : ℕ → ℕ → Option ℕ) (n : ℕ) (v
     stands = v .places .stands;
     claim-stands = v .places .claim-stands;
     claim-joined = v .places .claim-joined;
-    only = v .places .only;
     placed = v .places .placed;
     bound = λ m. upd-at (λ x. x ≤ length (s .order)) (s .taken) n (suc (s .taken n)) m (λ _. hn) (λ _. v .places .bound m);
     small = v .places .small;
   }
+
+  -- ---- a former place
+
+  module _ (former : s .place t ≢ s .taken n) where
+    abbrev m′ : State
+    m′ = move-on s n
+
+    sure-before : (x k : ℕ) → claims (s .claim x k) ≡ true → Sure (s .phase x) (s .failed x) (s .place x) (taken′ (own k)) → Sure (s .phase x) (s .failed x) (s .place x) (s .taken (own k))
+    sure-before x k c w = sure-now (s .failed) x k (λ y. y) c w (λ y. y) (λ e z q _. absurd (former (ap (s .place) (sym z) ∙ q)))
+
+    pub keeps-move-on : Inv m′ l r
+    unfolding entries storing stores
+    keeps-move-on = record {
+      places = keeps-places;
+      copies = v .copies;
+      locks = record {
+        applied-over = v .locks .applied-over;
+        applied-taken = λ m u y. taken-more m (s .place u) (v .locks .applied-taken m u y);
+        settled = λ x u k w c. v .locks .settled x u k (sure-before x k c w) c;
+        alone = v .locks .alone;
+      };
+      queues = λ k. same? (own k) n
+          (λ e. rw (e, upd-same (s .taken) n (suc (s .taken n)), by-former (s .order) (s .place) (live own (s .claim) (l .applied) k) (s .taken n) former)
+          (v .queues k ∙ ap (λ m. entries (s .order) (s .place) (live own (s .claim) (l .applied) k) (s .taken m)) e))
+          (λ d. rw (upd-other (s .taken) n (suc (s .taken n)) (own k) d) (v .queues k));
+      linked = v .linked;
+      values = record {
+        sheet-is = v .values .sheet-is;
+        behind = v .values .behind;
+        current = v .values .current;
+        reads = λ x k y c w. v .values .reads x k y c (sure-before x k c w);
+      };
+    }
 
   -- ---- a last place
 
@@ -83,7 +115,7 @@ module _ (s : State) (l : History) (r : ℕ → ℕ → Option ℕ) (n : ℕ) (v
         le-irr h = omega arith
 
     -- what the node found, sheet by sheet
-    fine : (k : ℕ) → finds-invalid s n t ≡ false → own k ≡ n → claims (s .claim t k) ≡ true → holds (x-on (s .claim) k) (s .queue k) || (ltb (s .copy t k .wct) (s .sheet k .wct)) ≡ false
+    fine : (k : ℕ) → finds-invalid s n t ≡ false → own k ≡ n → claims (s .claim t k) ≡ true → holds (x-on (s .claim) k) (s .queue k) || (has-copy (s .mark t k) && ltb (s .copy t k .wct) (s .sheet k .wct)) ≡ false
     fine k f e c = rw (eq-eqb (own k) n e, c) at (any-none (s .header .sheets) (λ k. owns s n k && fails-at s t k) f k (v .copies .claim-range t k c))
 
     valid-now : {P : Type 0} (x k : ℕ) → claims (s .claim x k) ≡ true → Sure (s .phase x) (s′ .failed x) (s .place x) (taken′ (own k))
@@ -100,7 +132,7 @@ module _ (s : State) (l : History) (r : ℕ → ℕ → Option ℕ) (n : ℕ) (v
     cleared u k f e c o x =
         let st = v .places .claim-stands u k (x-claims (s .claim u k) x) in
         live-not own (s .claim) (l .applied) k u (x-claims (s .claim u k) x) (λ y. true≢false (sym x ∙ holds-mem (x-on (s .claim) k) (s .queue k) u
-        (or-l (holds (x-on (s .claim) k) (s .queue k)) (ltb (s .copy t k .wct) (s .sheet k .wct)) (fine k f e c))
+        (or-l (holds (x-on (s .claim) k) (s .queue k)) (has-copy (s .mark t k) && ltb (s .copy t k .wct) (s .sheet k .wct)) (fine k f e c))
         (rw (v .queues k) (entries-in (s .order) (s .place) (live own (s .claim) (l .applied) k) (s .taken (own k)) u (rw (e, ← last) o) (st .1) y))))
 
     keeps-queues : Queues own (s .order) (s .place) (s .claim) (s′ .taken) (l .applied) (s′ .queue)
@@ -125,7 +157,7 @@ module _ (s : State) (l : History) (r : ℕ → ℕ → Option ℕ) (n : ℕ) (v
       where
         valid : (k : ℕ) → has-copy (s .mark t k) ≡ true → claims (s .claim t k) ≡ true → own k ≡ n → finds-invalid s n t ≡ false → r t k ≡ some (serial-at s k (s .place t) .content)
         valid k y c e f =
-            let w : s .sheet k .wct ≤ s .copy t k .wct = ltb-false (s .copy t k .wct) (s .sheet k .wct) (or-r (holds (x-on (s .claim) k) (s .queue k)) (ltb (s .copy t k .wct) (s .sheet k .wct)) (fine k f e c)) in
+            let w : s .sheet k .wct ≤ s .copy t k .wct = ltb-false (s .copy t k .wct) (s .sheet k .wct) (rw y at (or-r (holds (x-on (s .claim) k) (s .queue k)) (has-copy (s .mark t k) && ltb (s .copy t k .wct) (s .sheet k .wct)) (fine k f e c))) in
             v .values .current t k y (omega (arith, v .values .behind t k y))
             ∙ ap (λ x. some (x .content)) (sheet-shown s (l .applied) r (s .place t) k (v .copies) (v .values) (omega (arith, v .places .claim-stands t k c .0))
             (λ u o _ x. cleared u k f e c o x)

@@ -2,8 +2,10 @@
 -- that a test of another number put in moves no proof which asks.
 use Prim.Native.Nat.{ℕ}
 use native.Mathlib.Omega.{arith}
-use mathlib.Core.Path.{_≡_, refl}
-use mathlib.Core.Bool.{true, cond}
+use mathlib.Core.Path.{_≡_, refl, sym, _∙_}
+use mathlib.Core.Bool.{Bool, true, false, not, _&&_, cond, true≢false}
+use mathlib.Core.Logic.{_≢_}
+use borrow.Author.Tests.{eq-eqb}
 use mathlib.Core.List.{List, [], _∷_}
 use lib.Dec.{eqb}
 use Rattle.rules.specs.Steps.{Test, pass, refuse, first-failed}
@@ -36,3 +38,14 @@ passed-asked gs e n = go gs (passed gs e)
 pub passes : (gs : List Test) → Passed gs → first-failed gs ≡ pass
 passes [] p = refl
 passes (g ∷ gs) p = rw (p .0) (passes gs (p .1))
+
+-- a refusal that no test names is never given
+abbrev pub unnamed : ℕ → List Test → Bool
+unnamed n [] = true
+unnamed n (g ∷ gs) = not (eqb (g .number) n) && unnamed n gs
+
+pub never : (n : ℕ) (gs : List Test) → unnamed n gs ≡ true → first-failed gs ≢ refuse n
+never n [] a e = refuse-pass n (sym e)
+never n (g ∷ gs) a e = bool (eqb (g .number) n) (λ q. true≢false (sym (rw q at a)))
+    (λ q. bool (g .passes) (λ r. never n gs (rw q at a) (rw r at e))
+    (λ r. let z : refuse (g .number) ≡ refuse n = rw r at e in let y : g .number ≡ n = cc in true≢false (sym (eq-eqb (g .number) n y) ∙ q)))

@@ -12,7 +12,7 @@ use borrow.Author.Tests.{eqb-true, eqb-false, ne-eqb, not-true}
 use Rattle.rules.specs.Table.{upd, any, first-below}
 use Rattle.rules.specs.Bytes.{Command, Begin, Read, Write, Submit, Take, Decide, Apply, GiveUp}
 use Rattle.rules.specs.State.{Sheet, store, State, is-committed, is-written, claims}
-use Rattle.rules.specs.Steps.{mem, without, owns, next, fails-at, finds-invalid, first-cause, has-entry, check, counted, effect, answer}
+use Rattle.rules.specs.Steps.{mem, without, owns, next, next-is-last, fails-at, finds-invalid, first-cause, has-entry, check, counted, effect, answer}
 use Rattle.rules.specs.Neighbours.{node-of, Untouched, differ, at-two-nodes}
 use Rattle.rules.proofs.Table.{bool, clash, same?, upd-same, upd-other, upd-at}
 
@@ -64,9 +64,9 @@ pub record Plan : Type 0 where
 abbrev pub plan : State → Work → Plan
 plan s (take n) = record {
   who = next s n;
-  found = finds-invalid s n (next s n);
+  found = next-is-last s n && finds-invalid s n (next s n);
   far = suc;
-  queue = λ k q. cond (claims (s .claim (next s n) k)) (q ++ next s n ∷ []) q;
+  queue = λ k q. cond (next-is-last s n && claims (s .claim (next s n) k)) (q ++ next s n ∷ []) q;
   sheet = λ k c. c;
 }
 plan s (apply n t) = record {
@@ -121,8 +121,11 @@ cond-and true b x y = refl
 cond-and false b x y = refl
 
 pub as-touch : (s : State) (w : Work) → effect s (command w) ≡ touch s (node w) (plan s w)
-as-touch s (take n) = λ i. with-nodes s (joined (s .failed) (next s n) (finds-invalid s n (next s n))) (changed (s .taken) n suc)
-    (λ k. cond-and (owns s n k) (claims (s .claim (next s n) k)) (s .queue k ++ next s n ∷ []) (s .queue k) i) (λ k. sym (cond-none (owns s n k) (s .sheet k)) i)
+as-touch s (take n) = bool (next-is-last s n)
+    (λ y. rw y (λ i. with-nodes s (joined (s .failed) (next s n) (finds-invalid s n (next s n))) (changed (s .taken) n suc)
+    (λ k. cond-and (owns s n k) (claims (s .claim (next s n) k)) (s .queue k ++ next s n ∷ []) (s .queue k) i) (λ k. sym (cond-none (owns s n k) (s .sheet k)) i)))
+    (λ y. rw y (λ i. with-nodes s (sym (upd-none (s .failed) (next s n) (s .failed (next s n) || false) (or-false (s .failed (next s n)))) i) (changed (s .taken) n suc)
+    (λ k. sym (cond-none (owns s n k) (s .queue k)) i) (λ k. sym (cond-none (owns s n k) (s .sheet k)) i)))
 as-touch s (apply n t) = λ i. with-nodes s (sym (upd-none (s .failed) t (s .failed t || false) (or-false (s .failed t))) i) (sym (upd-none (s .taken) n (s .taken n) refl) i)
     (λ k. cond (owns s n k) (without t (s .queue k)) (s .queue k))
     (λ k. cond-and (owns s n k) (is-committed (s .phase t) && is-written (s .mark t k)) (store (s .sheet k) (s .copy t k .content)) (s .sheet k) i)

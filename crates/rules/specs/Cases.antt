@@ -103,7 +103,8 @@ refusals =
     ∷ case (fresh ++ "01 00  04 00  04 00") (refusal 7 5) "04 00" "P 0 1 U\nO 0 0 0\nT 2 0 0\nR 7 5\n"
     ∷ case (fresh ++ "01 00 01 01 02 00 00 03 00 00 00 00 00 01 04 00 05 00 02 01 00") (refusal 21 6) "02 01 00" "P 0 1 U\nO 0 0 0\nT 6 0 0\nR 21 6\n"
     ∷ case (fresh ++ "01 00 03 00 00 00 00 00 05") (refusal 5 7) "03 00 00 00 00 00 05" "O 0 0 0\nT 1 0 0\nR 5 7\n"
-    ∷ case (W-43 ++ "02 01 01  " ++ W-end) (refusal 43 8) "02 01 01" "P 0 1 C\nP 1 2 U\nO 0 7 1\nO 1 0 0\nT 13 1 0\nR 43 8\n"
+    -- the example of 8, which is given no more: the READ is accepted, and the WRITE of a sheet without own copy gives 7
+    ∷ case (W-43 ++ "02 01 01  " ++ W-end) (refusal 46 7) "03 01 00 00 00 00 09" "P 0 1 C\nP 1 2 U\nO 0 7 1\nO 1 0 0\nT 14 1 0\nR 46 7\n"
     ∷ case (fresh ++ "05 00") (refusal 3 9) "05 00" "O 0 0 0\nT 0 0 0\nR 3 9\n"
     ∷ case (W ++ "07 00 01") (refusal 58 11) "07 00 01" "P 0 1 C\nP 1 2 C\nO 0 9 2\nO 1 0 0\nT 17 1 1\nR 58 11\n"
     ∷ case (fresh ++ "04 00") (refusal 3 13) "04 00" "O 0 0 0\nT 0 0 0\nR 3 13\n"
@@ -265,4 +266,89 @@ unchanged =
     ∷ case (second-reading ++ "03 01 00 00 00 00 00  04 01  07 00 01") (answers accepted) "" "P 0 1 C\nP 1 2 C\nO 0 0 2\nT 17 1 1\n"
     -- the content last written counts: save 2 writes 9, then the 0 that is there
     ∷ case (fresh ++ away ++ back ++ "01 02  02 02 00  03 02 00 00 00 00 09  03 02 00 00 00 00 00  04 02  05 00  06 02  07 00 02") (answers accepted) "" "P 0 1 C\nP 1 1 C\nP 2 1 C\nO 0 0 2\nT 22 3 0\n"
+    ∷ []
+
+-- ---- Request 7
+
+-- one node with two sheets; two nodes with one each
+abbrev at-one : String
+at-one = "01 02 00 00  "
+
+abbrev at-two : String
+at-two = "02 02 00 01  "
+
+-- save 1 reads sheet 0 and is submitted behind save 0, which is carried out there with 1: save 1 has failed and is in its second run, S on sheet 0
+abbrev later : String
+later = "01 00  01 01  02 00 00  03 00 00 00 00 00 01  04 00  02 01 00  04 01  05 00  06 00  07 00 00  05 00  06 01  "
+
+-- it reads sheet 1 too, and is submitted again: its last place is 2, its former one 1
+abbrev opened : String
+opened = later ++ "02 01 01  04 01  "
+
+-- the same with save 1's X on sheet 0, behind which save 2's S waits
+abbrev held-up : String
+held-up =
+    at-one ++ "01 00  01 01  01 02  02 00 00  03 00 00 00 00 00 01  04 00  02 01 00  03 01 00 00 00 00 02  04 01  02 02 00  04 02  05 00  06 00  07 00 00  05 00  05 00  06 01  "
+
+-- save 2 has written sheet 1 and is submitted behind save 1's first place
+abbrev writer : String
+writer =
+    at-one ++ "01 00  01 01  01 02  02 00 00  03 00 00 00 00 00 01  04 00  02 01 00  04 01  02 02 01  03 02 01 00 00 00 03  04 02  05 00  06 00  07 00 00  05 00  06 01  "
+
+-- save 1 in its second run on the one sheet, S; save 2, behind it, writes or has read it
+abbrev behind-it : (save-2 : String) → String
+behind-it save-2 = fresh ++ "01 00  01 01  01 02  02 00 00  03 00 00 00 00 00 01  04 00  02 01 00  04 01  " ++ save-2
+
+-- save 1 opens sheet 1, fails there by save 2's X, and opens sheet 2: its places are 1, 3 and 4
+abbrev twice : String
+twice =
+    "02 03 00 00 00  " ++ later ++ "01 02  02 02 01  03 02 01 00 00 00 05  04 02  02 01 01  04 01  05 00  05 00  06 02  07 00 02  06 01  02 01 02  04 01  "
+
+abbrev pub widened : List Case
+widened =
+    -- wide by a new sheet; node 1 passes the former places 0 and 1 and finds save 1 valid there
+    case (at-two ++ opened) (answers accepted) "" "P 0 1 C\nP 1 2 U\nO 0 1 1\nO 1 0 0\nT 14 1 0\n"
+    ∷ case (at-two ++ opened ++ "05 01  05 01") (answers (took 1 valid)) "" "P 0 1 C\nP 1 2 U\nO 0 1 1\nO 1 0 0\nT 16 1 0\n"
+    -- the new claim's owners must have taken the last place: one has not; the other has taken the former one only
+    ∷ case (at-two ++ opened ++ "05 00  05 01  05 01  06 01") (refusal 47 10) "06 01" "P 0 1 C\nP 1 2 U\nO 0 1 1\nO 1 0 0\nT 17 1 0\nR 47 10\n"
+    ∷ case (at-two ++ opened ++ "05 00  06 01") (refusal 43 10) "06 01" "P 0 1 C\nP 1 2 U\nO 0 1 1\nO 1 0 0\nT 15 1 0\nR 43 10\n"
+    -- committed by DECIDE, counted under s; its write of the new sheet is stored
+    ∷ case (at-two ++ later ++ "02 01 01  03 01 01 00 00 00 04  04 01  05 01  05 01  05 01  05 00  06 01  07 00 01  07 01 01") (answers accepted) "" "P 0 1 C\nP 1 2 C\nO 0 1 1\nO 1 4 1\nT 22 1 1\n"
+    -- sheet 0 is in the claim without a copy: its counter is not compared
+    ∷ case (at-one ++ opened ++ "05 00  06 01") (answers commits) "" "P 0 1 C\nP 1 2 C\nO 0 1 1\nO 1 0 0\nT 16 1 1\n"
+    -- S to X: the SUBMIT does not commit, and the save is submitted
+    ∷ case (fresh ++ later ++ "02 01 00  03 01 00 00 00 00 06  04 01  05 00  06 01  07 00 01") (answers accepted) "" "P 0 1 C\nP 1 2 C\nO 0 6 2\nT 18 1 1\n"
+    ∷ case (fresh ++ later ++ "02 01 00  03 01 00 00 00 00 06  04 01  07 00 01") (refusal 47 5) "07 00 01" "P 0 1 C\nP 1 2 U\nO 0 1 1\nT 15 1 0\nR 47 5\n"
+    -- within the claim: it commits; without any READ too
+    ∷ case (at-one ++ later ++ "02 01 00  04 01  07 00 01") (answers accepted) "" "P 0 1 C\nP 1 2 C\nO 0 1 1\nO 1 0 0\nT 15 1 1\n"
+    ∷ case (at-one ++ later ++ "04 01  04 01") (refusal 38 14) "04 01" "P 0 1 C\nP 1 2 C\nO 0 1 1\nO 1 0 0\nT 13 1 1\nR 38 14\n"
+    -- a WRITE still needs the run's own copy; a refused one makes nothing wide
+    ∷ case (at-one ++ later ++ "03 01 01 00 00 00 03") (refusal 36 7) "03 01 01 00 00 00 03" "P 0 1 C\nP 1 2 U\nO 0 1 1\nO 1 0 0\nT 12 1 0\nR 36 7\n"
+    -- submitted again: no READ until it is decided
+    ∷ case (at-one ++ opened ++ "02 01 00") (refusal 41 5) "02 01 00" "P 0 1 C\nP 1 2 U\nO 0 1 1\nO 1 0 0\nT 14 1 0\nR 41 5\n"
+    -- given up while wide: the claim is the old one, and its entries stay until APPLY
+    ∷ case (at-one ++ later ++ "02 01 01  03 01 01 00 00 00 08  08 01  07 00 01") (answers accepted) "" "P 0 1 C\nP 1 2 D\nO 0 1 1\nO 1 0 0\nT 16 1 0\n"
+    ∷ case (held-up ++ "02 01 01  03 01 01 00 00 00 08  08 01  06 02") (refusal 64 10) "06 02" "P 0 1 C\nP 1 2 D\nP 2 1 U\nO 0 1 1\nO 1 0 0\nT 20 1 0\nR 64 10\n"
+    -- submitted while wide: its entries are gone, and save 2 is first
+    ∷ case (held-up ++ "02 01 01  04 01  06 02  02 02 00  04 02  07 00 02  05 00  06 01") (answers commits) "" "P 0 1 C\nP 2 2 C\nP 1 2 C\nO 0 1 1\nO 1 0 0\nT 25 1 2\n"
+    -- a READ outside the claim passes save 2's X, and that X fails the new place
+    ∷ case (writer ++ "05 00  02 01 01") (answers (content-is 0)) "" "P 0 1 C\nP 1 2 U\nP 2 1 U\nO 0 1 1\nO 1 0 0\nT 18 1 0\n"
+    ∷ case (writer ++ "05 00  02 01 01  04 01  05 00") (fails 1 1 x-granted) "" "P 0 1 C\nP 2 1 U\nP 1 2 U\nO 0 1 1\nO 1 0 0\nT 20 1 0\n"
+    -- it fails again, and runs again under the larger claim: a third run, not wide
+    ∷ case (writer ++ "05 00  02 01 01  04 01  05 00  06 02  07 00 02  06 01  02 01 01  02 01 00  04 01  07 00 01") (answers accepted) "" "P 0 1 C\nP 2 1 C\nP 1 3 C\nO 0 1 1\nO 1 3 1\nT 27 2 1\n"
+    -- save 2 is carried out in between: the counter is behind at the new sheet
+    ∷ case (writer ++ "02 01 01  04 01  05 00  06 02  07 00 02  05 00") (fails 1 1 counter-behind) "" "P 0 1 C\nP 2 1 C\nP 1 2 U\nO 0 1 1\nO 1 3 1\nT 22 2 0\n"
+    -- an X in the queue of a sheet that is claimed without a copy fails it
+    ∷ case (at-one ++ "01 00  01 01  01 02  02 00 00  03 00 00 00 00 00 01  04 00  02 01 00  04 01  05 00  06 00  07 00 00  02 02 00  03 02 00 00 00 00 05  04 02  05 00  06 01  05 00  02 01 01  04 01  05 00") (fails 1 0 x-granted) "" "P 0 1 C\nP 2 1 U\nP 1 2 U\nO 0 1 1\nO 1 0 0\nT 20 1 0\n"
+    -- X where the claim was X: save 1 wrote sheet 0 in its first run, and only reads sheet 1 in its second
+    ∷ case (at-one ++ "01 00  01 01  02 00 00  03 00 00 00 00 00 01  02 01 00  03 01 00 00 00 00 02  04 00  04 01  05 00  06 00  07 00 00  05 00  06 01  02 01 01  04 01  05 00  06 01  07 00 01") (answers accepted) "" "P 0 1 C\nP 1 2 C\nO 0 1 1\nO 1 0 0\nT 18 1 1\n"
+    -- rows by last place: save 2 is submitted between save 1's two places
+    ∷ case (at-one ++ "01 00  01 01  01 02  02 00 00  03 00 00 00 00 00 01  04 00  02 01 00  04 01  02 02 01  04 02  05 00  06 00  07 00 00  05 00  06 01  02 01 01  04 01") (answers accepted) "" "P 0 1 C\nP 2 1 U\nP 1 2 U\nO 0 1 1\nO 1 0 0\nT 17 1 0\n"
+    -- the serial order by last place: save 2 read 1, and save 1, behind it by its last place, stores 2
+    ∷ case (behind-it "05 00  06 00  07 00 00  02 02 00  04 02  05 00  06 01  02 01 00  03 01 00 00 00 00 02  04 01  05 00  06 02  07 00 02  05 00  06 01  07 00 01") (answers accepted) "" "P 0 1 C\nP 2 1 C\nP 1 2 C\nO 0 2 2\nT 24 2 1\n"
+    -- S to X, failed by save 2's X, and a third run within the claim
+    ∷ case (behind-it "02 02 00  03 02 00 00 00 00 03  04 02  05 00  06 00  07 00 00  05 00  05 00  06 01  02 01 00  03 01 00 00 00 00 02  04 01  05 00  06 02  02 02 00  04 02  07 00 02  06 01  02 01 00  03 01 00 00 00 00 07  04 01  07 00 01") (answers accepted) "" "P 0 1 C\nP 2 2 C\nP 1 3 C\nO 0 7 2\nT 30 1 2\n"
+    -- wide twice: node 1, which owns nothing, passes both former places of save 1, then its last; the third run's place commits
+    ∷ case (twice ++ "05 01  05 01  05 01  05 01") (answers (took 1 valid)) "" "P 0 1 C\nP 2 1 C\nP 1 3 U\nO 0 1 1\nO 1 5 1\nO 2 0 0\nT 29 2 0\n"
+    ∷ case (twice ++ "05 01  05 01  05 01  05 01  05 01  05 00  06 01") (answers commits) "" "P 0 1 C\nP 2 1 C\nP 1 3 C\nO 0 1 1\nO 1 5 1\nO 2 0 0\nT 32 2 1\n"
     ∷ []

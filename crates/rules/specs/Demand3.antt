@@ -1,12 +1,14 @@
 -- Demand 3: one claim about a header and a whole list of commands from new nodes, up to its end or its first refused command.
 use Prim.Native.Nat.{ℕ, _+_, _*_, _≤_}
 use mathlib.Core.Path.{_≡_}
-use mathlib.Core.Bool.{Bool, true, false}
+use mathlib.Core.Bool.{Bool, true, false, _&&_}
 use mathlib.Core.List.{List, [], _∷_, map}
 use mathlib.Core.Option.{Option, none, some}
 use lib.ListN.{length}
+use Rattle.rules.specs.Table.{count}
+use Rattle.rules.specs.Sizes.{max-saves}
 use Rattle.rules.specs.Bytes.{Header, in-range, Command, Begin, Read, Write, Submit, Take, Decide, Apply, GiveUp, header, opens, reading, Step}
-use Rattle.rules.specs.State.{State, fresh, is-second, claims}
+use Rattle.rules.specs.State.{State, fresh, is-second, claims, wide}
 use Rattle.rules.specs.Steps.{mem, Answer, Result, answered, refused, step, Event, run}
 use Rattle.rules.specs.Serial.{Fed, feed, History, history, serial-shows, serial-leaves, first-reads}
 
@@ -43,11 +45,11 @@ CarriedOut h cs = (t k : ℕ) → told h cs .committed t ≡ true → claims (af
 abbrev pub Store : Header → List Command → Type 0
 Store h cs = CarriedOut h cs → (k : ℕ) → after h cs .sheet k ≡ serial-leaves (fed h cs) k
 
--- No save has entered more than two runs.
+-- No save has entered more than 2 + 2×M runs.
 abbrev pub Runs : Header → List Command → Type 0
-Runs h cs = (t : ℕ) → told h cs .runs t ≤ 2
+Runs h cs = (t : ℕ) → told h cs .runs t ≤ 2 + 2 * h .sheets
 
--- TAKE, DECIDE, second-run SUBMIT and APPLY
+-- TAKE, DECIDE, SUBMIT of a later run and APPLY
 abbrev pub of-four-kinds : State → Command → Bool
 of-four-kinds s (Begin t) = false
 of-four-kinds s (Read t k) = false
@@ -72,13 +74,17 @@ unfoldable pub accepted-of : State → List Command → ℕ
 accepted-of s [] = 0
 accepted-of s (c ∷ cs) = one-if-accepted (step s c .result) + accepted-of (step s c .state) cs
 
--- S, the accepted first-run SUBMITs
-abbrev pub submitted-saves : Header → List Command → ℕ
-submitted-saves h cs = length (told h cs .order)
+-- P, all places
+abbrev pub places : Header → List Command → ℕ
+places h cs = length (told h cs .order)
 
--- Whatever list of the four kinds follows alone, at most (2×N+2)×S of them are accepted, even where it goes on after a refused one.
+-- W, the saves that are now in a wide run
+abbrev pub wide-runs : State → ℕ
+wide-runs s = count max-saves (λ t. is-second (s .phase t) && wide s t)
+
+-- Whatever list of the four kinds follows alone, at most (2×N+2)×(P+W) of them are accepted, even where it goes on after a refused one.
 abbrev pub Bound : Header → List Command → Type 0
-Bound h cs = (more : List Command) → FourKinds (after h cs) more → accepted-of (after h cs) more ≤ (2 * h .nodes + 2) * submitted-saves h cs
+Bound h cs = (more : List Command) → FourKinds (after h cs) more → accepted-of (after h cs) more ≤ (2 * h .nodes + 2) * (places h cs + wide-runs (after h cs))
 
 -- Whenever a queue holds an entry, some command of the four kinds is accepted next.
 abbrev pub Progress : Header → List Command → Type 0

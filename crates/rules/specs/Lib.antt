@@ -10,6 +10,7 @@ pub mod Serial
 pub mod Demand3
 pub mod Changes
 pub mod Calls
+pub mod Eight
 pub mod Writing
 pub mod Report
 pub mod Neighbours

@@ -7,7 +7,7 @@ use lib.ListN.{length, drop}
 use lib.Dec.{ltb}
 use Rattle.rules.specs.Sizes.{min-buffer}
 use Rattle.rules.specs.Bytes.{Stop, ended, stopped, opens}
-use Rattle.rules.specs.State.{Sheet, Phase, unused, first, submitted, second, committed, dropped, Tally, State}
+use Rattle.rules.specs.State.{Sheet, Phase, unused, first, submitted, second, committed, dropped, Tally, State, by-last}
 use Rattle.rules.specs.Calls.{session-run, stop}
 
 -- ---- Figures, fields and lines
@@ -31,7 +31,7 @@ field n = code " " ∷ decimal n
 abbrev pub line-end : ℕ
 line-end = 10
 
--- ---- P t r o, one per place in the order
+-- ---- P t r o, one per last place in the order
 
 -- "The order of places is a list of rows, each with save, runs and outcome."
 pub record Row : Type 0 where
@@ -49,7 +49,7 @@ letter committed = code "C"
 letter dropped = code "D"
 
 unfoldable pub rows : State → List Row
-rows s = map (λ t. record { save = t; runs = s .runs t; outcome = letter (s .phase t) }) (s .order)
+rows s = map (λ t. record { save = t; runs = s .runs t; outcome = letter (s .phase t) }) (by-last (s .order) (s .place) (length (s .order)))
 
 unfoldable pub place-line : Row → List ℕ
 place-line r = code "P" ∷ (field (r .save) ++ field (r .runs) ++ code " " ∷ r .outcome ∷ line-end ∷ [])

@@ -1,8 +1,10 @@
 -- What a session's commands work on: the nodes with their sheets and queues, the saves, the order, the tally.
-use Prim.Native.Nat.{ℕ, suc}
+use Prim.Native.Nat.{ℕ, zero, suc}
 use mathlib.Core.Bool.{Bool, true, false, _||_, cond}
-use mathlib.Core.List.{List, []}
+use mathlib.Core.List.{List, [], _∷_, _++_}
+use lib.ListN.{getD}
 use lib.Dec.{eqb}
+use Rattle.rules.specs.Table.{row, any}
 use Rattle.rules.specs.Bytes.{Header}
 
 -- A sheet (document 01's term for an object): its content and its write counter, WCT. A save's own copy of it is a content with the WCT seen.
@@ -18,8 +20,8 @@ new-sheet = record { content = 0; wct = 0 }
 abbrev pub store : Sheet → ℕ → Sheet
 store s v = record { content = v; wct = cond (eqb v (s .content)) (s .wct) (suc (s .wct)) }
 
--- The phases of a save (document 01's term for a transaction): unused; in its first run (document 01's term), submitted, in its
--- second run; committed; dropped (document 01's term), which is by GIVE UP.
+-- The phases of a save (document 01's term for a transaction): unused; in its first run (document 01's term), submitted, in a
+-- later run, which the papers call its second; committed; dropped (document 01's term), which is by GIVE UP.
 pub data Phase : Type 0 where
   unused first submitted second committed dropped : Phase
 
@@ -31,7 +33,7 @@ pub data Mark : Type 0 where
 pub data Claim : Type 0 where
   unclaimed shared exclusive : Claim
 
--- T's figures: commands accepted, saves committed from the first run, from the second.
+-- T's figures: commands accepted, saves committed from the first run, from a later one.
 pub record Tally : Type 0 where
   pub accepted : ℕ
   pub from-first : ℕ
@@ -48,8 +50,8 @@ pub record State : Type 0 where
   pub claim : ℕ → ℕ → Claim  -- save, sheet
   pub failed : ℕ → Bool  -- the save is marked failed
   pub runs : ℕ → ℕ  -- runs entered
-  pub order : List ℕ  -- the order (document 01's term): the saves by first-run SUBMIT
-  pub place : ℕ → ℕ  -- a save's place in the order, counted from 0
+  pub order : List ℕ  -- the order (document 01's term), its places: the saves by SUBMIT of a first or of a wide run
+  pub place : ℕ → ℕ  -- a save's last place in the order, counted from 0
   pub taken : ℕ → ℕ  -- how many places of the order a node has taken
   pub tally : Tally
 
@@ -121,7 +123,7 @@ is-dropped second = false
 is-dropped committed = false
 is-dropped dropped = true
 
--- a running save: first or second run
+-- a running save: first or a later run
 abbrev pub running : Phase → Bool
 running p = is-first p || is-second p
 
@@ -148,3 +150,50 @@ abbrev pub is-x : Claim → Bool
 is-x unclaimed = false
 is-x shared = false
 is-x exclusive = true
+
+-- ---- Claims and copies
+
+-- the copy asks for more than the claim, none < S < X
+abbrev pub wider : Claim → Mark → Bool
+wider c absent = false
+wider unclaimed copied = true
+wider shared copied = false
+wider exclusive copied = false
+wider unclaimed written = true
+wider shared written = true
+wider exclusive written = false
+
+-- the larger of the two
+abbrev pub join-claim : Claim → Mark → Claim
+join-claim c absent = c
+join-claim unclaimed copied = shared
+join-claim shared copied = shared
+join-claim exclusive copied = exclusive
+join-claim c written = exclusive
+
+-- "joins claim and copies into a new claim": save t's
+abbrev pub joined-claim : (ℕ → ℕ → Claim) → (ℕ → ℕ → Mark) → ℕ → ℕ → ℕ → Claim
+joined-claim claim mark t = row claim t (λ k. join-claim (claim t k) (mark t k))
+
+-- of m sheets, some copy asks for more than the claim
+unfoldable pub wide-by : (m : ℕ) → (ℕ → Claim) → (ℕ → Mark) → Bool
+wide-by m claim mark = any m (λ k. wider (claim k) (mark k))
+
+-- save t's run is wide
+abbrev pub wide : State → ℕ → Bool
+wide s t = wide-by (s .header .sheets) (s .claim t) (s .mark t)
+
+-- ---- Places
+
+-- the save at a place of the order
+abbrev pub at : List ℕ → ℕ → ℕ
+at order p = getD order p 0
+
+-- place q is the last one of its save; else it is a former place
+abbrev pub is-last : (order : List ℕ) (place : ℕ → ℕ) → ℕ → Bool
+is-last order place q = eqb (place (at order q)) q
+
+-- the saves whose last place is before p, by last place
+unfoldable pub by-last : (order : List ℕ) (place : ℕ → ℕ) → (p : ℕ) → List ℕ
+by-last order place zero = []
+by-last order place (suc p) = cond (is-last order place p) (by-last order place p ++ at order p ∷ []) (by-last order place p)

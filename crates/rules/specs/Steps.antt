@@ -3,11 +3,11 @@ use Prim.Native.Nat.{ℕ, suc}
 use mathlib.Core.Bool.{Bool, true, false, not, _&&_, _||_, cond}
 use mathlib.Core.List.{List, [], _∷_, _++_}
 use mathlib.Core.Option.{Option, none, some, Option·map}
-use lib.ListN.{length, getD}
+use lib.ListN.{length}
 use lib.Dec.{eqb, ltb}
 use Rattle.rules.specs.Table.{upd, upd2, row, all, any, first-below}
 use Rattle.rules.specs.Bytes.{Operand, save, sheet, node, limit, Command, Begin, Read, Write, Submit, Take, Decide, Apply, GiveUp}
-use Rattle.rules.specs.State.{Sheet, store, Phase, first, submitted, second, committed, dropped, Mark, absent, copied, written, Claim, unclaimed, shared, exclusive, Tally, State, is-unused, is-first, is-second, is-submitted, is-committed, running, over, has-copy, is-written, claims, is-x}
+use Rattle.rules.specs.State.{Sheet, store, Phase, first, submitted, second, committed, dropped, Mark, absent, copied, written, Claim, unclaimed, shared, exclusive, Tally, State, is-unused, is-first, is-second, is-submitted, is-committed, running, over, has-copy, is-written, claims, is-x, joined-claim, wide, at, is-last}
 
 -- ---- Queues: lists of saves, first come first
 
@@ -61,17 +61,25 @@ granted s t k = granted-as (s .claim t k) (x-on (s .claim) k) (before t (s .queu
 abbrev pub owns : State → ℕ → ℕ → Bool
 owns s n k = eqb (s .header .owner k) n
 
--- node n has taken save t
+-- node n has taken save t, by its last place
 abbrev pub has-taken : State → ℕ → ℕ → Bool
 has-taken s n t = ltb (s .place t) (s .taken n)
 
--- the next submitted save for node n
+-- the save at the next place for node n
 abbrev pub next : State → ℕ → ℕ
-next s n = getD (s .order) (s .taken n) 0
+next s n = at (s .order) (s .taken n)
 
--- TAKE marks the save failed at claimed sheet k: its queue holds an X, granted or waiting, or the copy's WCT is below the sheet's
+-- the next place for node n is the last one of its save
+abbrev pub next-is-last : State → ℕ → Bool
+next-is-last s n = is-last (s .order) (s .place) (s .taken n)
+
+-- the counter is behind at sheet k: save t has a copy, whose WCT is below the sheet's. "TAKE compares the WCT only where a copy exists."
+abbrev pub behind : State → ℕ → ℕ → Bool
+behind s t k = has-copy (s .mark t k) && ltb (s .copy t k .wct) (s .sheet k .wct)
+
+-- TAKE marks the save failed at claimed sheet k: its queue holds an X, granted or waiting, or the counter is behind
 abbrev pub fails-at : State → ℕ → ℕ → Bool
-fails-at s t k = claims (s .claim t k) && (holds (x-on (s .claim) k) (s .queue k) || ltb (s .copy t k .wct) (s .sheet k .wct))
+fails-at s t k = claims (s .claim t k) && (holds (x-on (s .claim) k) (s .queue k) || behind s t k)
 
 -- node n finds save t invalid
 abbrev pub finds-invalid : State → ℕ → ℕ → Bool
@@ -111,17 +119,16 @@ begun p = test (not (is-unused p)) 13
 abbrev not-over : Phase → Test
 not-over p = test (not (over p)) 14
 
--- In the order 2, 3, 4, 13, 14, 5, 8, 6, 7, 9, 10, 11: document 01's, with 13 and 14 "tested just before 5". 2 and 3 are given where the
--- bytes are read.
+-- In the order 2, 3, 4, 13, 14, 5, 6, 7, 9, 10, 11: document 01's, with 13 and 14 "tested just before 5", and without 8, which "never occurs any
+-- more" (document 02 [7]). 2 and 3 are given where the bytes are read.
 abbrev pub tests : State → Command → List Test
 tests s (Begin t) = operand s save t ∷ not-over (s .phase t) ∷ test (is-unused (s .phase t)) 5 ∷ []
 tests s (Read t k) =
     operand s save t ∷ operand s sheet k ∷ begun (s .phase t) ∷ not-over (s .phase t) ∷ test (running (s .phase t)) 5
-    ∷ test (is-first (s .phase t) || claims (s .claim t k)) 8
     ∷ test (is-second (s .phase t) || (has-copy (s .mark t k) || not (at-front (x-on (s .claim) k) (s .queue k)))) 6 ∷ []
 tests s (Write t k v) =
     operand s save t ∷ operand s sheet k ∷ begun (s .phase t) ∷ not-over (s .phase t) ∷ test (running (s .phase t)) 5
-    ∷ test (is-first (s .phase t) || is-x (s .claim t k)) 8 ∷ test (has-copy (s .mark t k)) 7 ∷ []
+    ∷ test (has-copy (s .mark t k)) 7 ∷ []
 tests s (Submit t) = operand s save t ∷ begun (s .phase t) ∷ not-over (s .phase t) ∷ test (running (s .phase t)) 5 ∷ []
 tests s (Take n) = operand s node n ∷ test (ltb (s .taken n) (length (s .order))) 9 ∷ []
 tests s (Decide t) =
@@ -137,7 +144,7 @@ check s c = first-failed (tests s c)
 
 -- ---- Effects
 
--- a command accepted; one that commits a save from its first run, from its second
+-- a command accepted; one that commits a save from its first run, from a later one
 abbrev pub counted : Tally → Tally
 counted a = record { accepted = suc (a .accepted); from-first = a .from-first; from-second = a .from-second }
 
@@ -146,6 +153,10 @@ counted-first a = record { accepted = suc (a .accepted); from-first = suc (a .fr
 
 abbrev pub counted-second : Tally → Tally
 counted-second a = record { accepted = suc (a .accepted); from-first = a .from-first; from-second = suc (a .from-second) }
+
+abbrev pub counted-commit : (later : Bool) → Tally → Tally
+counted-commit false a = counted-first a
+counted-commit true a = counted-second a
 
 -- saves with new phases, marks and counts of runs
 abbrev pub with-saves : State → (ℕ → Phase) → (ℕ → ℕ → Mark) → (ℕ → ℕ) → Tally → State
@@ -201,23 +212,18 @@ read-copy absent own owner's = owner's
 read-copy copied own owner's = own
 read-copy written own owner's = own
 
--- SUBMIT: the sheets with copies become the claim, X where written, S otherwise
-abbrev pub claim-of : Mark → Claim
-claim-of absent = unclaimed
-claim-of copied = shared
-claim-of written = exclusive
-
--- first run: the save joins the end of the order
+-- SUBMIT of a first run, whose claim is empty, and of a wide one: the entries at all nodes are removed, claim and copies are joined
+-- into the new claim, the failed mark is cleared, and the save takes a new place at the end of the order
 abbrev pub join-order : State → ℕ → State
 join-order s t = record {
   header = s .header;
   sheet = s .sheet;
-  queue = s .queue;
+  queue = λ k. without t (s .queue k);
   phase = upd (s .phase) t submitted;
   mark = s .mark;
   copy = s .copy;
-  claim = row (s .claim) t (λ k. claim-of (s .mark t k));
-  failed = s .failed;
+  claim = joined-claim (s .claim) (s .mark) t;
+  failed = upd (s .failed) t false;
   runs = s .runs;
   order = s .order ++ t ∷ [];
   place = upd (s .place) t (length (s .order));
@@ -225,11 +231,12 @@ join-order s t = record {
   tally = counted (s .tally);
 }
 
-abbrev pub submit-save : (first-run : Bool) → State → ℕ → State
+-- else a later run within its claim commits
+abbrev pub submit-save : (joins : Bool) → State → ℕ → State
 submit-save true s t = join-order s t
 submit-save false s t = with-phase s t committed (counted-second (s .tally))
 
--- TAKE: an entry is added at the end of the queue of each claimed sheet that node n owns, also after one that fails
+-- TAKE at a last place: an entry is added at the end of the queue of each claimed sheet that node n owns, also after one that fails
 abbrev pub take-save : State → ℕ → ℕ → State
 take-save s n t = record {
   header = s .header;
@@ -247,9 +254,31 @@ take-save s n t = record {
   tally = counted (s .tally);
 }
 
--- DECIDE. Not failed: committed. Failed: the copies are cleared, the claim and the entries stay, the second run begins.
+-- at a former place the node only moves on
+abbrev pub move-on : State → ℕ → State
+move-on s n = record {
+  header = s .header;
+  sheet = s .sheet;
+  queue = s .queue;
+  phase = s .phase;
+  mark = s .mark;
+  copy = s .copy;
+  claim = s .claim;
+  failed = s .failed;
+  runs = s .runs;
+  order = s .order;
+  place = s .place;
+  taken = upd (s .taken) n (suc (s .taken n));
+  tally = counted (s .tally);
+}
+
+abbrev pub take-next : (last : Bool) → State → ℕ → State
+take-next true s n = take-save s n (next s n)
+take-next false s n = move-on s n
+
+-- DECIDE. Not failed: committed. Failed: the copies are cleared, the claim and the entries stay, the next run begins.
 abbrev pub decide-save : (failed : Bool) → State → ℕ → State
-decide-save false s t = with-phase s t committed (counted-first (s .tally))
+decide-save false s t = with-phase s t committed (counted-commit (ltb 1 (s .runs t)) (s .tally))
 decide-save true s t = enter-run s t second (row (s .mark) t (λ k. absent))
 
 -- APPLY: sheet k of node n was written in the last run of a committed t
@@ -277,8 +306,8 @@ abbrev pub effect : State → Command → State
 effect s (Begin t) = enter-run s t first (s .mark)
 effect s (Read t k) = with-copy s t k (read-mark (s .mark t k)) (read-copy (s .mark t k) (s .copy t k) (s .sheet k))
 effect s (Write t k v) = with-copy s t k written (record { content = v; wct = s .copy t k .wct })
-effect s (Submit t) = submit-save (is-first (s .phase t)) s t
-effect s (Take n) = take-save s n (next s n)
+effect s (Submit t) = submit-save (is-first (s .phase t) || wide s t) s t
+effect s (Take n) = take-next (next-is-last s n) s n
 effect s (Decide t) = decide-save (s .failed t) s t
 effect s (Apply n t) = apply-save s n t
 effect s (GiveUp t) = with-phase s t dropped (counted (s .tally))
@@ -298,7 +327,7 @@ abbrev pub cause : ℕ → Rule → Cause
 cause k r = record { sheet = k; rule = r }
 
 -- "on one sheet the X comes before the counter: X granted where the queue's front entry is an X, else X waiting where it holds one"; else
--- counter behind where the copy's WCT is below the sheet's
+-- counter behind
 abbrev pub rule-met : (x-in-front x-in-queue behind : Bool) → Option Rule
 rule-met true x b = some x-granted
 rule-met false true b = some x-waiting
@@ -309,7 +338,7 @@ rule-met false false false = none
 abbrev pub cause-at : State → (n t k : ℕ) → Option Cause
 cause-at s n t k =
     cond (owns s n k && claims (s .claim t k))
-    (Option·map (cause k) (rule-met (at-front (x-on (s .claim) k) (s .queue k)) (holds (x-on (s .claim) k) (s .queue k)) (ltb (s .copy t k .wct) (s .sheet k .wct))))
+    (Option·map (cause k) (rule-met (at-front (x-on (s .claim) k) (s .queue k)) (holds (x-on (s .claim) k) (s .queue k)) (behind s t k)))
     none
 
 -- "the first cause it met": "sheets count in rising number"
@@ -336,6 +365,11 @@ abbrev pub verdict : Option Cause → Verdict
 verdict none = valid
 verdict (some c) = invalid c
 
+-- "At a former place a node .. finds the save valid."
+abbrev pub found : (last : Bool) → Option Cause → Verdict
+found true c = verdict c
+found false c = valid
+
 abbrev pub decision : (failed : Bool) → Answer
 decision true = second-run
 decision false = commits
@@ -345,7 +379,7 @@ answer s (Begin t) = accepted
 answer s (Read t k) = content-is (read-copy (s .mark t k) (s .copy t k) (s .sheet k) .content)
 answer s (Write t k v) = accepted
 answer s (Submit t) = accepted
-answer s (Take n) = took (next s n) (verdict (first-cause s n (next s n)))
+answer s (Take n) = took (next s n) (found (next-is-last s n) (first-cause s n (next s n)))
 answer s (Decide t) = decision (s .failed t)
 answer s (Apply n t) = accepted
 answer s (GiveUp t) = accepted

@@ -1,5 +1,5 @@
 -- Tables as functions of one or two numbers, a change of one place or one row, and tests over the numbers below a bound.
-use Prim.Native.Nat.{ℕ, zero, suc}
+use Prim.Native.Nat.{ℕ, zero, suc, _+_}
 use mathlib.Core.Bool.{Bool, true, false, _&&_, _||_, cond}
 use mathlib.Core.Option.{Option, none, orElse}
 use lib.Dec.{eqb}
@@ -31,3 +31,8 @@ any (suc n) f = f n || any n f
 unfoldable pub first-below : {A : Type 0} → ℕ → (ℕ → Option A) → Option A
 first-below zero f = none
 first-below (suc n) f = orElse (first-below n f) (f n)
+
+-- how many numbers below n pass the test
+unfoldable pub count : ℕ → (ℕ → Bool) → ℕ
+count zero f = 0
+count (suc n) f = count n f + cond (f n) 1 0

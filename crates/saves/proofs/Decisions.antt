@@ -1,17 +1,17 @@
 -- DECIDE: what it stores is its rule's effect.
-use Prim.Native.Nat.{ℕ, _*_, _<_}
+use Prim.Native.Nat.{ℕ, _*_, _≤_, _<_}
 use mathlib.Core.Path.{_≡_, refl, sym, ap, _∙_}
 use mathlib.Core.Bool.{Bool, true, false, _&&_, cond}
 use mathlib.Core.Logic.{_≢_}
 use mathlib.Core.List.{[]}
 use lib.ListN.{getD}
 use lib.Dec.{ltb}
-use borrow.Author.Tests.{ne-eqb, lt-ltb}
+use borrow.Author.Tests.{ne-eqb, lt-ltb, le-ltb}
 use Rattle.rules.specs.Bytes.{Decide}
 use Rattle.rules.specs.State.{absent}
 use Rattle.rules.specs.Steps.{pass, refuse}
-use Rattle.state.specs.declared.Answer.the-variants.{Commits, SecondRun, Refused}
-use Rattle.state.specs.Parts.{Parts, byte-sizes, store, MARK, PHASE, FAILED}
+use Rattle.state.specs.declared.Answer.the-variants.{Commits, CommitsLater, SecondRun, Refused}
+use Rattle.state.specs.Parts.{Parts, byte-sizes, store, MARK, PHASE, FAILED, RUNS}
 use Rattle.state.specs.View.{as-mark, out-of-phase, flat, view, no-tally}
 use Rattle.state.specs.Changes.{entering}
 use Rattle.state.specs.Fill.{fill}
@@ -56,13 +56,24 @@ module _ {m : ℕ} {d : Parts} (ready : Ready m d) (t : ℕ) (t32 : t < 32) {p :
     decide-10 g x = refused (λ tally. rw (lt-ltb t 32 t32, e) (not-both taken all-granted 10 g))
 
     module _ (g : taken && all-granted ≡ true) {f : ℕ} (mark : f ≡ getD (d FAILED) t 0) where
-      pub decide-commits : f ≡ 0 → Does m d (Decide t) (store d PHASE t 4) Commits
-      decide-commits h x =
-          let f0 : getD (d FAILED) t 0 ≡ 0 = sym mark ∙ h in
-          accepted
-          (λ tally. rw (lt-ltb t 32 t32, e) (both taken all-granted 10 g))
-          (λ tally. rw f0 (same-state refl refl refl (phase-set ready t t32 read 4) refl refl refl refl refl refl refl refl refl))
-          (λ tally. rw f0)
+      -- from the first run, or from a later one
+      module _ (h : f ≡ 0) {r : ℕ} (runs : r ≡ getD (d RUNS) t 0) where
+        f0 : getD (d FAILED) t 0 ≡ 0
+        f0 = sym mark ∙ h
+
+        pub decide-commits : r ≤ 1 → Does m d (Decide t) (store d PHASE t 4) Commits
+        decide-commits o x =
+            accepted
+            (λ tally. rw (lt-ltb t 32 t32, e) (both taken all-granted 10 g))
+            (λ tally. rw (f0, ← runs, le-ltb 1 r o) (same-state refl refl refl (phase-set ready t t32 read 4) refl refl refl refl refl refl refl refl refl))
+            (λ tally. rw f0)
+
+        pub decide-later : 1 < r → Does m d (Decide t) (store d PHASE t 4) CommitsLater
+        decide-later o x =
+            accepted
+            (λ tally. rw (lt-ltb t 32 t32, e) (both taken all-granted 10 g))
+            (λ tally. rw (f0, ← runs, lt-ltb 1 r o) (same-state refl refl refl (phase-set ready t t32 read 4) refl refl refl refl refl refl refl refl refl))
+            (λ tally. rw f0)
 
       -- the run's number and phase, and no copy
       abbrev pub again : Parts
@@ -98,5 +109,5 @@ module _ {m : ℕ} {d : Parts} (ready : Ready m d) (t : ℕ) (t32 : t < 32) {p :
           whole = whole-put (holds-entering ready t 3 .shaped .whole) MARK (fill (λ j. 0) (t * m) m (d MARK)) (rw length-fill (ready .shaped .whole .all MARK));
           fits = ready .shaped .fits;
         };
-        hints = λ h k. record { whole = k .whole; behind = k .behind; listed = k .listed };
+        hints = λ h k. record { whole = k .whole; trimmed = k .trimmed; lined = k .lined; listed = k .listed };
       }

@@ -4,19 +4,22 @@ ghost use mathlib.Core.Path.{_≡_};
 ghost use mathlib.Core.Bool.{cond, _&&_};
 ghost use lib.Dec.{eqb};
 ghost use Rattle.rules.specs.Bytes.{Begin, Submit, Decide, GiveUp};
-ghost use Rattle.state.specs.Parts.{byte-sizes, hint-sizes, bytes, hints};
+ghost use Rattle.state.specs.Parts.{most-places, byte-sizes, hint-sizes, bytes, hints};
+ghost use Rattle.state.specs.View.{placed, lined};
 ghost use Rattle.state.specs.Ready.{Whole, Ready, Hints};
 ghost use Rattle.state.specs.Lent.{own, listing, seen-by, Moves, Keeps};
-ghost use Rattle.saves.specs.Rows.{claimed-row, cleared-row, Relisted};
+ghost use Rattle.saves.specs.Rows.{larger-of, claimed-row, cleared-row, exceeds, wide-upto, Relisted, joined-in};
 ghost use Rattle.sheets.specs.Tests.{taken-everywhere, granted-everywhere};
 use state::ABSENT;
 use state::Answer;
 use state::COMMITTED;
 use state::DROPPED;
+use state::EXCLUSIVE;
 use state::FIRST_RUN;
 use state::SECOND_RUN;
 use state::SUBMITTED;
 use state::Session;
+use state::UNCLAIMED;
 use state::UNUSED;
 
 // An unused save enters its first run.
@@ -58,7 +61,17 @@ pub fn give_up(b: &mut [u8], m: usize, t: u8) -> Answer
     Answer::Accepted
 }
 
-// Save t's marks become its claim: a copy is an S, a written one an X.
+// The larger of a claim and a mark: a copy is an S, a written one an X.
+fn larger(c: u8, x: u8) -> u8
+    ensures { λ r. ⌜ r ≡ larger-of c x ⌝ }
+{
+    if c < x {
+        return x;
+    }
+    c
+}
+
+// Save t's claim is joined with its marks.
 fn claim_row(b: &mut [u8], m: usize, t: usize)
     requires { ⌜ Whole (byte-sizes m) (bytes m (now b)) × (m < 65536) × (t < 32) ⌝ }
     ensures { λ _. ⌜ bytes m (now (b .exit)) ≡ claimed-row m (bytes m (now (b .entry))) t m ⌝ }
@@ -68,27 +81,28 @@ fn claim_row(b: &mut [u8], m: usize, t: usize)
     let mut k: usize = 0;
     while k < m {
         let x = b[from + k];
-        b[to + k] = x;
+        let c = b[to + k];
+        b[to + k] = larger(c, x);
         k += 1;
     }
 }
 
-// 1 where a mark is set.
-fn one(mark: u8) -> usize
-    ensures { λ r. ⌜ r ≡ cond (eqb mark 0) 0 1 ⌝ }
+// 1 where there is a claim.
+fn one(claim: u8) -> usize
+    ensures { λ r. ⌜ r ≡ cond (eqb claim 0) 0 1 ⌝ }
 {
-    if mark == ABSENT {
+    if claim == UNCLAIMED {
         return 0;
     }
     1
 }
 
-// The sheets with a mark of save t are listed. Every sheet is stored and only a marked one counted, so that the loop has no branch.
+// The sheets that save t claims are listed. Every sheet is stored and only a claimed one counted, so that the loop has no branch.
 fn list_row(b: &[u8], listed: &mut [u16], m: usize, t: usize)
     requires { ⌜ Whole (byte-sizes m) (bytes m (now b)) × Whole (hint-sizes m) (hints m (now listed)) × (m < 65536) × (t < 32) ⌝ }
     ensures { λ _. ⌜ Relisted m (bytes m (now (b .entry))) (hints m (now (listed .entry))) t (hints m (now (listed .exit))) ⌝ }
 {
-    let from = state::marks(m, t);
+    let from = state::claims(m, t);
     let to = state::lists(m, t);
     let mut c: usize = 0;
     let mut k: usize = 0;
@@ -101,9 +115,53 @@ fn list_row(b: &[u8], listed: &mut [u16], m: usize, t: usize)
     state::set_many(listed, m, t, c as u16);
 }
 
-// First run: the save joins the end of the order with its claim. Second run: it is committed.
+// Save t, which is not in line, joins the end of the order and of the line with its new claim, not failed.
+fn join(b: &mut [u8], listed: &mut [u16], m: usize, t: u8)
+    requires { ⌜
+        Whole (byte-sizes m) (bytes m (now b)) × Whole (hint-sizes m) (hints m (now listed)) × (m < 65536) × (t < 32)
+        × (placed (bytes m (now b)) < most-places) × (lined (bytes m (now b)) < 32)
+        ⌝ }
+    ensures { λ _. ⌜ bytes m (now (b .exit)) ≡ joined-in m (bytes m (now (b .entry))) t ⌝ }
+    ensures lists { λ _. ⌜ Relisted m (claimed-row m (bytes m (now (b .entry))) t m) (hints m (now (listed .entry))) t (hints m (now (listed .exit))) ⌝ }
+{
+    let ti = t as usize;
+    claim_row(b, m, ti);
+    list_row(b, listed, m, ti);
+    state::set_failed(b, m, ti, 0);
+    state::set_phase(b, m, ti, SUBMITTED);
+    state::take_place(b, m, t);
+    state::line_up(b, m, t);
+}
+
+// A mark asks for more than a claim. Both tests are made, so that neither is a branch.
+fn exceeds(c: u8, x: u8) -> bool
+    ensures { λ r. ⌜ r ≡ exceeds c x ⌝ }
+{
+    (c < EXCLUSIVE) & (c < x)
+}
+
+// Save t's run is wide: one of its marks asks for more than its claim. All sheets are looked at, so that the loop has no branch.
+fn is_wide(b: &[u8], m: usize, t: usize) -> bool
+    requires { ⌜ Whole (byte-sizes m) (bytes m (now b)) × (m < 65536) × (t < 32) ⌝ }
+    ensures { λ r. ⌜ r ≡ wide-upto m (bytes m (now (b .entry))) t m ⌝ }
+{
+    let from = state::marks(m, t);
+    let to = state::claims(m, t);
+    let mut w = false;
+    let mut k: usize = 0;
+    while k < m {
+        let x = b[from + k];
+        let c = b[to + k];
+        w = w | exceeds(c, x);
+        k += 1;
+    }
+    w
+}
+
+// First run: the save joins the end of the order with its claim. A later run: where it is wide, it leaves its place and joins again with a
+// larger claim; else it is committed.
 pub fn submit(b: &mut [u8], listed: &mut [u16], m: usize, t: u8) -> Answer
-    requires { ⌜ Ready m (bytes m (now b)) × Whole (hint-sizes m) (hints m (now listed)) ⌝ }
+    requires { ⌜ Ready m (bytes m (now b)) × Hints m (bytes m (now b)) (hints m (now listed)) ⌝ }
     ensures { λ r. ⌜ Moves m (own (now (b .entry))) (Submit t) (own (now (b .exit))) r ⌝ }
     ensures kept { λ _. ⌜ Keeps m (listing (now (b .entry)) (now (listed .entry))) (listing (now (b .exit)) (now (listed .exit))) ⌝ }
 {
@@ -113,13 +171,16 @@ pub fn submit(b: &mut [u8], listed: &mut [u16], m: usize, t: u8) -> Answer
     let ti = t as usize;
     let p = state::phase(b, m, ti);
     if p == FIRST_RUN {
-        list_row(b, listed, m, ti);
-        claim_row(b, m, ti);
-        state::set_phase(b, m, ti, SUBMITTED);
-        state::join(b, m, t);
+        join(b, listed, m, t);
         return Answer::Accepted;
     }
     if p == SECOND_RUN {
+        let w = is_wide(b, m, ti);
+        if w {
+            line::withdraw(b, m, t);
+            join(b, listed, m, t);
+            return Answer::Accepted;
+        }
         state::set_phase(b, m, ti, COMMITTED);
         return Answer::Recommits;
     }
@@ -152,7 +213,7 @@ fn decidable(b: &[u8], listed: &[u16], m: usize, t: u8) -> bool
     sheets::all_granted(b, listed, m, t)
 }
 
-// A save that did not fail is committed, a failed one enters its second run.
+// A save that did not fail is committed, from its first run or a later one; a failed one runs again.
 pub fn decide(b: &mut [u8], listed: &[u16], m: usize, t: u8) -> Answer
     requires { ⌜ Ready m (bytes m (now b)) × Hints m (bytes m (now b)) (hints m (now listed)) ⌝ }
     ensures { λ r. ⌜ Moves m (own (now (b .entry))) (Decide t) (own (now (b .exit))) r ⌝ }
@@ -173,7 +234,11 @@ pub fn decide(b: &mut [u8], listed: &[u16], m: usize, t: u8) -> Answer
     }
     let f = state::failed(b, m, ti);
     if f == 0 {
+        let r = state::runs(b, m, ti);
         state::set_phase(b, m, ti, COMMITTED);
+        if 1 < r {
+            return Answer::CommitsLater;
+        }
         return Answer::Commits;
     }
     state::enter_run(b, m, ti, SECOND_RUN);

@@ -18,7 +18,7 @@ use Rattle.wire.proofs.Header.{opens-has, owners-length}
 use Rattle.wire.proofs.Opening.{Opening}
 use Rattle.wire.proofs.Rest.{step-fits}
 use Rattle.state.specs.declared.Answer.{Answer}
-use Rattle.state.specs.declared.Answer.the-variants.{Accepted, Content, Took, Commits, SecondRun, Recommits, Refused}
+use Rattle.state.specs.declared.Answer.the-variants.{Accepted, Content, Took, Commits, CommitsLater, SecondRun, Recommits, Refused}
 use Rattle.state.specs.Parts.{bytes}
 use Rattle.state.specs.Slices.{Slices}
 use Rattle.state.specs.View.{no-tally, advanced}
@@ -66,7 +66,7 @@ module _ {b : List ℕ} (o : opens b ≡ true) {m : ℕ} {x : Slices} {tally : T
   abbrev here : State
   here = shown m x (figures tally)
 
-  counted : tally .accepted ≤ 16384
+  counted : tally .accepted ≤ 8192
   counted = omega (arith, v .going .counted, v .going .within, opens-has b o .0 .size)
 
   known-here : Known here
@@ -111,6 +111,7 @@ module _ {b : List ℕ} (o : opens b ≡ true) {m : ℕ} {x : Slices} {tally : T
         same-tally (Content u) n = absurd (n refl)
         same-tally (Took u w) n = absurd (n refl)
         same-tally Commits n = absurd (n refl)
+        same-tally CommitsLater n = absurd (n refl)
         same-tally SecondRun n = absurd (n refl)
         same-tally Recommits n = absurd (n refl)
         same-tally (Refused u) n = refl

@@ -6,14 +6,14 @@ use mathlib.Core.List.{List}
 use native.Mathlib.Omega.{arith}
 use lib.ListN.{getD}
 use Rattle.rules.specs.Bytes.{header, opens}
-use Rattle.rules.specs.State.{State, is-first}
-use Rattle.rules.proofs.Invariant.{joined}
-use Rattle.rules.proofs.Phases.{follows, runs-two}
-use Rattle.rules.proofs.Reached.{Reached, room}
+use Rattle.rules.specs.State.{State, is-first, is-second}
+use Rattle.rules.proofs.Invariant.{needs-place, joined}
+use Rattle.rules.proofs.Phases.{follows}
+use Rattle.rules.proofs.Reached.{Reached, runs-fit, places-fit}
 use Rattle.wire.proofs.Header.{opens-has, owner-small}
 use Rattle.state.specs.Ready.{Known}
 
-module _ (b : List ℕ) (o : opens b ≡ true) (s : State) (r : Reached s) (h : s .header ≡ header b) (few : s .tally .accepted ≤ 16384) where
+module _ (b : List ℕ) (o : opens b ≡ true) (s : State) (r : Reached s) (h : s .header ≡ header b) (few : s .tally .accepted ≤ 8192) where
   pub known : Known s
   known = record {
     nodes8 = rw h (opens-has b o .0 .nodes);
@@ -21,9 +21,9 @@ module _ (b : List ℕ) (o : opens b ≡ true) (s : State) (r : Reached s) (h : 
     owners = λ k _. rw h (owner-small b o k);
     takens = λ n _. r .inv .places .bound n;
     small = λ q l. r .inv .places .small (getD (s .order) q 0) (r .inv .places .placed q l);
-    once = r .inv .places .only;
     joined = λ q l. follows joined is-first true false refl (s .phase (getD (s .order) q 0)) (r .inv .places .placed q l);
-    room = λ t l e. room s r t l (follows is-first joined true false refl (s .phase t) e);
-    runs = λ t _. omega (arith, runs-two (s .phase t) (s .runs t) (r .inv .linked .runs-right t));
+    stands = λ t _ e. r .inv .places .stands t (follows is-second needs-place true true refl (s .phase t) e);
+    room = λ t l e. omega (arith, places-fit s r t l e);
+    runs = λ t _. let y : s .header .sheets ≤ 64 = rw h (opens-has b o .0 .sheets) in omega (arith, runs-fit s r t);
     rises = λ k _. omega (arith, r .figures .wct k);
   }

@@ -10,7 +10,7 @@ use Rattle.rules.specs.Steps.{Test, tests, Checked, pass, refuse, first-failed,
 use Rattle.rules.specs.Calls.{answers}
 use Rattle.rules.proofs.Table.{bool}
 use Rattle.state.specs.declared.Answer.{Answer}
-use Rattle.state.specs.declared.Answer.the-variants.{Accepted, Content, Took, Commits, SecondRun, Recommits, Refused}
+use Rattle.state.specs.declared.Answer.the-variants.{Accepted, Content, Took, Commits, CommitsLater, SecondRun, Recommits, Refused}
 use Rattle.state.specs.View.{result-of}
 use Rattle.session.specs.Meaning.{refusal-in, reply-to, reply-of}
 
@@ -47,6 +47,7 @@ told Accepted x e = cc
 told (Content v) x e = cc
 told (Took t v) x e = cc
 told Commits x e = cc
+told CommitsLater x e = cc
 told SecondRun x e = cc
 told Recommits x e = cc
 told (Refused n) x e = cc
@@ -57,6 +58,7 @@ accepts Accepted n l z e = absurd (let w : _≡_ {A = ℕ} 0 1 = cc in omega ari
 accepts (Content v) n l z e = absurd (let w : _≡_ {A = ℕ} 0 1 = cc in omega arith)
 accepts (Took t v) n l z e = absurd (let w : _≡_ {A = ℕ} 0 1 = cc in omega arith)
 accepts Commits n l z e = absurd (let w : _≡_ {A = ℕ} 0 1 = cc in omega arith)
+accepts CommitsLater n l z e = absurd (let w : _≡_ {A = ℕ} 0 1 = cc in omega arith)
 accepts SecondRun n l z e = absurd (let w : _≡_ {A = ℕ} 0 1 = cc in omega arith)
 accepts Recommits n l z e = absurd (let w : _≡_ {A = ℕ} 0 1 = cc in omega arith)
 accepts (Refused m) n l z e = absurd (let w : m ≡ n = cc in omega arith)
@@ -66,6 +68,7 @@ refuses Accepted n e = cc
 refuses (Content v) n e = cc
 refuses (Took t v) n e = cc
 refuses Commits n e = cc
+refuses CommitsLater n e = cc
 refuses SecondRun n e = cc
 refuses Recommits n e = cc
 refuses (Refused m) n e = cc
@@ -75,6 +78,7 @@ answers-none Accepted x n e = absurd (n refl)
 answers-none (Content v) x n e = absurd (n refl)
 answers-none (Took t v) x n e = absurd (n refl)
 answers-none Commits x n e = absurd (n refl)
+answers-none CommitsLater x n e = absurd (n refl)
 answers-none SecondRun x n e = absurd (n refl)
 answers-none Recommits x n e = absurd (n refl)
 answers-none (Refused m) x n e = absurd (let w : _≡_ {A = ℕ} 0 1 = cc in omega arith)

@@ -1,5 +1,5 @@
 -- The run's loop: at offset p of session b, in state s, after a command with answer `last`.
-use Prim.Native.Nat.{ℕ, _≤_}
+use Prim.Native.Nat.{ℕ, _*_, _≤_}
 use mathlib.Core.Path.{_≡_}
 use mathlib.Core.List.{List}
 use lib.ListN.{length, drop}
@@ -14,4 +14,4 @@ pub record Going (b : List ℕ) (s : State) (last : Reply) (p : ℕ) : Type 0 wh
   pub reached : Reached s
   pub header-is : s .header ≡ header b
   pub within : p ≤ length b
-  pub counted : s .tally .accepted ≤ p  -- a command has a byte of its own
+  pub counted : 2 * s .tally .accepted ≤ p  -- a command has two bytes of its own

@@ -7,7 +7,7 @@ ghost use Rattle.rules.specs.Report as rules;
 ghost use Rattle.text.specs.Wrote.{Wrote};
 ghost use Rattle.state.specs.Parts.{bytes};
 ghost use Rattle.state.specs.Slices.{slices};
-ghost use Rattle.state.specs.Ready.{Ready, Table};
+ghost use Rattle.state.specs.Ready.{Ready, Trimmed, Lined, Table};
 ghost use Rattle.wire.specs.Meaning.{opened};
 ghost use Rattle.wire.specs.declared.Opened.the-variants.{Header};
 ghost use Rattle.session.specs.Meaning.{refusal-in, reply-to, stop-of};
@@ -48,6 +48,7 @@ fn refusal(a: Answer) -> u8
         Answer::Content(_) => 0,
         Answer::Took(_, _) => 0,
         Answer::Commits => 0,
+        Answer::CommitsLater => 0,
         Answer::SecondRun => 0,
         Answer::Recommits => 0,
         Answer::Refused(n) => n,
@@ -63,6 +64,7 @@ fn told(a: Answer) -> Reply
         Answer::Content(v) => Reply::Content(v),
         Answer::Took(t, v) => Reply::Took(t, v),
         Answer::Commits => Reply::Commits,
+        Answer::CommitsLater => Reply::Commits,
         Answer::SecondRun => Reply::SecondRun,
         Answer::Recommits => Reply::Accepted,
         Answer::Refused(_) => Reply::NoCommand,
@@ -120,7 +122,10 @@ fn stop_line(buf: &mut [u8], at: usize, stop: Stop) -> usize
 // The report of a walk: the state's lines, of at most 867 + 35 * m bytes, then the stop's, of at most 24. A buffer that is too short for a
 // report is left alone.
 fn report_lines(report: &mut [u8], b: &[u8], w: &[u32], m: usize, r: Walked) -> usize
-    requires { ⌜ Ready m (bytes m (now b)) × Table 2 m (now w) × (891 + 35 * m ≤ min-buffer) × Within max-session (r .stop) ⌝ }
+    requires { ⌜
+        Ready m (bytes m (now b)) × Trimmed (bytes m (now b)) × Lined (bytes m (now b)) × Table 2 m (now w)
+        × (891 + 35 * m ≤ min-buffer) × Within max-session (r .stop)
+        ⌝ }
     ensures { λ z. ⌜ record { size = z; buffer = now (report .exit) } ≡ filled (lines-of m (now (b .entry)) (now (w .entry)) r) (now (report .entry)) ⌝ }
     ensures fits { λ z. ⌜ z ≤ length (now (report .entry)) ⌝ }
 {

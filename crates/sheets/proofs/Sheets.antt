@@ -5,21 +5,20 @@ use mathlib.Core.Bool.{Bool, true, false, not, _&&_, _||_, and-true, and-false}
 use mathlib.Core.Logic.{_≢_}
 use mathlib.Core.List.{List, []}
 use mathlib.Core.Option.{some}
-use native.Mathlib.Omega.{arith}
 use lib.ListN.{getD}
 use lib.Dec.{eqb, ltb}
-use borrow.Author.Tests.{eq-eqb, ne-eqb}
-use Rattle.rules.specs.State.{claims}
-use Rattle.rules.specs.Steps.{mem, holds, x-on, fails-at, x-granted, x-waiting, counter-behind, rule-met, has-entry}
-use Rattle.rules.proofs.Places.{at}
-use Rattle.rules.proofs.Table.{same?, any-fails}
-use Rattle.state.specs.Parts.{Parts, WCT, CLAIM, STANDING, OWNER, ORDER, PLACE, TAKEN}
-use Rattle.state.specs.View.{set?, claim-in, entered, queue-in, view, no-tally}
-use Rattle.state.specs.Ready.{Ready}
-use Rattle.state.proofs.Codes.{claims-code}
+use borrow.Author.Tests.{eqb-true, eq-eqb, ne-eqb, lt-ltb, ltb-true}
+use Rattle.rules.specs.State.{claims, at, by-last}
+use Rattle.rules.specs.Steps.{mem, holds, x-on, behind, fails-at, x-granted, x-waiting, counter-behind, rule-met, has-entry}
+use Rattle.rules.proofs.LastPlaces.{last-in, last-out}
+use Rattle.rules.proofs.Table.{bool, clash, same?, any-fails}
+use Rattle.state.specs.Parts.{Parts, word, WCT, MARK, CLAIM, STANDING, OWNER, LINE, MET, ORDER, TAKEN}
+use Rattle.state.specs.View.{set?, claim-in, entered, queue-in, place-in, view, no-tally}
+use Rattle.state.specs.Ready.{Ready, front, Lined}
+use Rattle.state.proofs.Codes.{has-copy-code, claims-code}
 use Rattle.state.proofs.Stores.{flat-in}
 use Rattle.state.proofs.Tables.{any-cong}
-use Rattle.queues.proofs.Walk.{entries-mem}
+use Rattle.state.proofs.Places.{waiting-mem}
 use Rattle.sheets.specs.Tests.{taken-at, claims-at, stands-at}
 
 -- ---- A sheet of node n, or of another one
@@ -37,13 +36,18 @@ module _ {m : ℕ} (d : Parts) {k : ℕ} (km : k < m) (t : ℕ) {c : ℕ} (ec : 
   pub claims-read : set? c ≡ claims (claim-in m (d CLAIM) t k)
   claims-read = rw (flat-in m (d CLAIM) t k km, claims-code (getD (d CLAIM) (t * m + k) 0), ec)
 
-  pub fails-read : (seen w : List ℕ) {a b : ℕ} {x : Bool} → a ≡ getD seen (t * m + k) 0 → b ≡ getD w (WCT * m + k) 0
-      → x ≡ holds (x-on (claim-in m (d CLAIM)) k) (view m d [] seen w no-tally .queue k) → fails-at (view m d [] seen w no-tally) t k ≡ (set? c && (x || ltb a b))
-  fails-read seen w ea eb ex = rw (← claims-read, ← ex, flat-in m seen t k km, flat-in m w WCT k km, ea, eb)
+  pub fails-read : (seen w : List ℕ) {o x : Bool} → o ≡ behind (view m d [] seen w no-tally) t k
+      → x ≡ holds (x-on (claim-in m (d CLAIM)) k) (view m d [] seen w no-tally .queue k) → fails-at (view m d [] seen w no-tally) t k ≡ (set? c && (x || o))
+  fails-read seen w eo ex = rw (← claims-read, ← ex, ← eo)
 
-  pub taken-read : {n q upto : ℕ} → n ≡ getD (d OWNER) k 0 → q ≡ getD (d PLACE) t 0 → upto ≡ getD (d TAKEN) n 0
+  pub taken-read : {n q upto : ℕ} → n ≡ getD (d OWNER) k 0 → q ≡ place-in d t → upto ≡ word (d TAKEN) n
       → taken-at (view m d [] [] [] no-tally) t k ≡ (not (set? c) || ltb q upto)
   taken-read en eq eu = rw (← claims-read, ← en, ← eq, ← eu)
+
+module _ {m : ℕ} (d : Parts) {k : ℕ} (km : k < m) (t : ℕ) (seen w : List ℕ) where
+  pub behind-read : {a b x : ℕ} → a ≡ getD seen (t * m + k) 0 → b ≡ getD w (WCT * m + k) 0 → x ≡ getD (d MARK) (t * m + k) 0
+      → behind (view m d [] seen w no-tally) t k ≡ (set? x && ltb a b)
+  behind-read ea eb ex = rw (flat-in m (d MARK) t k km, has-copy-code (getD (d MARK) (t * m + k) 0), flat-in m seen t k km, flat-in m w WCT k km, ea, eb, ex)
 
 -- ---- The rule at a sheet that fails, by the front entry and the queue
 
@@ -60,20 +64,33 @@ module _ {f front : Bool} (ef : f ≡ front) where
 
 -- ---- A save that stands at a node has an entry at each sheet that it claims there, another has none
 
-pub stands-read : (d : Parts) (n t : ℕ) {e q upto : ℕ} → e ≡ getD (d STANDING) (n * 32 + t) 0 → q ≡ getD (d PLACE) t 0 → upto ≡ getD (d TAKEN) n 0
+pub stands-read : (d : Parts) (n t : ℕ) {e q upto : ℕ} → e ≡ getD (d STANDING) (n * 32 + t) 0 → q ≡ place-in d t → upto ≡ word (d TAKEN) n
     → stands-at d n t ≡ (set? e && (ltb q upto && eqb (at (d ORDER) q) t))
 stands-read d n t ee eq eu = rw (ee, eq, eu)
 
-module _ {m : ℕ} {d : Parts} (ready : Ready m d) (n t : ℕ) where
+module _ {m : ℕ} {d : Parts} (ready : Ready m d) (lined : Lined d) (n t : ℕ) where
   -- sheet k's queue, were its owner o
   abbrev queue : (o k : ℕ) → List ℕ
-  queue o k = queue-in m (d ORDER) (λ u. getD (d PLACE) u 0) (d STANDING) (d CLAIM) o k (getD (d TAKEN) o 0)
+  queue o k = queue-in m (d LINE) (d STANDING) (d CLAIM) o k (getD (d MET) o 0)
+
+  -- t is among those that node n has met where the node has taken its last place
+  met-code : mem t (front (d LINE) (getD (d MET) n 0)) ≡ (ltb (place-in d t) (word (d TAKEN) n) && eqb (at (d ORDER) (place-in d t)) t)
+  met-code =
+      rw (lined .met n)
+      (bool (mem t (by-last (d ORDER) (place-in d) (word (d TAKEN) n)))
+      (λ y. rw y (last-out (d ORDER) (place-in d) (word (d TAKEN) n) t y (λ h e. rw (lt-ltb (place-in d t) (word (d TAKEN) n) h, e, eq-eqb t t refl))))
+      (λ y. rw y (bool (ltb (place-in d t) (word (d TAKEN) n))
+      (λ h. bool (eqb (at (d ORDER) (place-in d t)) t)
+      (λ e. clash (mem t (by-last (d ORDER) (place-in d) (word (d TAKEN) n))) (last-in (d ORDER) (place-in d) (word (d TAKEN) n) t (ltb-true (place-in d t) (word (d TAKEN) n) h) (eqb-true (at (d ORDER) (place-in d t)) t e)) y)
+      (λ e. rw (h, e)))
+      (λ h. rw h))))
 
   entry-code : (k : ℕ) → mem t (queue n k) ≡ (stands-at d n t && claims (claim-in m (d CLAIM) t k))
   unfolding entered
   entry-code k =
-      entries-mem (d ORDER) (λ u. getD (d PLACE) u 0) (entered m (d STANDING) (d CLAIM) n k) t (getD (d TAKEN) n 0) (λ q l. ready .once q (omega (arith, ready .takens n)))
-      ∙ moved (set? (getD (d STANDING) (n * 32 + t) 0)) (claims (claim-in m (d CLAIM) t k)) (ltb (getD (d PLACE) t 0) (getD (d TAKEN) n 0) && eqb (at (d ORDER) (getD (d PLACE) t 0)) t)
+      waiting-mem (d LINE) (entered m (d STANDING) (d CLAIM) n k) t (getD (d MET) n 0)
+      ∙ rw met-code
+      (moved (set? (getD (d STANDING) (n * 32 + t) 0)) (claims (claim-in m (d CLAIM) t k)) (ltb (place-in d t) (word (d TAKEN) n) && eqb (at (d ORDER) (place-in d t)) t))
     where
       moved : (a b c : Bool) → (a && b) && c ≡ (a && c) && b
       moved true true c = sym (and-true c)

@@ -5,11 +5,10 @@ use mathlib.Core.Option.{Option}
 use lib.ListN.{getD}
 use lib.Dec.{eqb, ltb}
 use Rattle.rules.specs.Table.{all, any}
-use Rattle.rules.specs.State.{State, claims}
+use Rattle.rules.specs.State.{State, claims, at}
 use Rattle.rules.specs.Steps.{holds, at-front, x-on, Rule, rule-met, owns, has-taken, granted}
-use Rattle.rules.proofs.Places.{at}
-use Rattle.state.specs.Parts.{Parts, STANDING, ORDER, PLACE, TAKEN}
-use Rattle.state.specs.View.{set?}
+use Rattle.state.specs.Parts.{Parts, word, STANDING, ORDER, TAKEN}
+use Rattle.state.specs.View.{set?, place-in}
 
 -- the rule that a save fails by at sheet k, where it fails
 abbrev pub rule-at : State → (k : ℕ) → Option Rule
@@ -29,6 +28,6 @@ granted-everywhere s t = all (s .header .sheets) (granted s t)
 abbrev pub claims-at : State → (n t : ℕ) → Bool
 claims-at s n t = any (s .header .sheets) (λ k. owns s n k && claims (s .claim t k))
 
--- save t has its place among those that node n has taken, and stands there: its entries at the node are then at all sheets that it claims
+-- save t has its last place among those that node n has taken, and stands there: its entries at the node are then at all sheets that it claims
 abbrev pub stands-at : Parts → (n t : ℕ) → Bool
-stands-at d n t = set? (getD (d STANDING) (n * 32 + t) 0) && (ltb (getD (d PLACE) t 0) (getD (d TAKEN) n 0) && eqb (at (d ORDER) (getD (d PLACE) t 0)) t)
+stands-at d n t = set? (getD (d STANDING) (n * 32 + t) 0) && (ltb (place-in d t) (word (d TAKEN) n) && eqb (at (d ORDER) (place-in d t)) t)

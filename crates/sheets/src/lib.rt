@@ -3,17 +3,33 @@
 ghost use Prim.Native.Nat.{_<_};
 ghost use mathlib.Core.Path.{_≡_};
 ghost use mathlib.Core.Option.{some};
-ghost use Rattle.rules.specs.Steps.{fails-at, verdict, first-cause, has-entry};
+ghost use Rattle.rules.specs.Steps.{behind, fails-at, verdict, first-cause, has-entry};
 ghost use Rattle.state.specs.Parts.{bytes, hints};
 ghost use Rattle.state.specs.Ready.{Ready, Trimmed, Hints, Table};
 ghost use Rattle.state.specs.Lent.{own, taking, seen-by};
 ghost use Rattle.state.specs.View.{rule-of, verdict-of};
 ghost use Rattle.sheets.specs.Tests.{rule-at, taken-at, taken-everywhere, granted-everywhere, claims-at, stands-at};
+use state::ABSENT;
 use state::Cause;
 use state::Rule;
 use state::Session;
 use state::UNCLAIMED;
 use state::Verdict;
+
+// The counter is behind at sheet k: save t has a copy, whose WCT is below the sheet's. Only where it is below does the mark count.
+fn behind(b: &[u8], seen: &[u32], w: &[u32], m: usize, k: usize, t: u8) -> bool
+    requires { ⌜ Ready m (bytes m (now b)) × Table 32 m (now seen) × Table 2 m (now w) × (k < m) × (t < 32) ⌝ }
+    ensures { λ r. ⌜ r ≡ behind (seen-by m (taking (now (b .entry)) (now (seen .entry)) (now (w .entry)))) t k ⌝ }
+{
+    let ti = t as usize;
+    let s = state::cell(seen, m, ti, k);
+    let v = state::cell(w, m, Session::WCT, k);
+    if v <= s {
+        return false;
+    }
+    let x = state::mark(b, m, ti, k);
+    x != ABSENT
+}
 
 // Save t fails at sheet k. The queue is walked last: that takes the longest.
 fn fails_at(b: &[u8], seen: &[u32], w: &[u32], m: usize, k: usize, t: u8) -> bool
@@ -25,9 +41,8 @@ fn fails_at(b: &[u8], seen: &[u32], w: &[u32], m: usize, k: usize, t: u8) -> boo
     if c == UNCLAIMED {
         return false;
     }
-    let s = state::cell(seen, m, ti, k);
-    let v = state::cell(w, m, Session::WCT, k);
-    if s < v {
+    let old = behind(b, seen, w, m, k, t);
+    if old {
         return true;
     }
     queues::holds_x(b, m, k)
@@ -149,7 +164,7 @@ pub fn claims_here(b: &[u8], listed: &[u16], m: usize, n: u8, t: u8) -> bool
     false
 }
 
-// Save t has its place among those that node n has taken, and stands there.
+// Save t has its last place among those that node n has taken, and stands there.
 fn stands(b: &[u8], m: usize, n: usize, t: u8) -> bool
     requires { ⌜ Ready m (bytes m (now b)) × (n < 8) × (t < 32) ⌝ }
     ensures { λ r. ⌜ r ≡ stands-at (bytes m (now (b .entry))) n t ⌝ }

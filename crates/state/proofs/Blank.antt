@@ -3,17 +3,19 @@ use Prim.Native.Nat.{ℕ, _+_, _*_, _≤_, _<_}
 use mathlib.Core.Path.{_≡_, refl, sym, ap, _∙_, fun-ext}
 use mathlib.Core.List.{List}
 use native.Mathlib.Omega.{arith}
-use native.Mathlib.Nat.{zero-add}
+use native.Mathlib.Nat.{zero-add, not-suc-le-zero}
 use lib.ListN.{length, getD, set, replicate, length-replicate}
 use lib.Seq.{getD-set-same}
-use Rattle.rules.specs.State.{fresh}
+use Rattle.rules.specs.State.{fresh, by-last}
 use Rattle.rules.proofs.Table.{below?}
-use Rattle.state.specs.Parts.{Parts, parts, size, off, all-of, byte-sizes, bytes, hint-sizes, put, store, MARK, CLAIM, OWNER, PHASE, FAILED, RUNS, PLACE, TAKEN, GONE, NODES, PLACED, MANY}
+use Rattle.state.specs.Parts.{Parts, parts, size, off, all-of, byte-sizes, bytes, hint-sizes, put, store, MARK, CLAIM, OWNER, PHASE, FAILED, RUNS, LINED, MET, PLACE, TAKEN, GONE, NODES, PLACED, MANY}
 use Rattle.state.specs.Slices.{Slices, slices}
 use Rattle.state.specs.Fill.{fill}
+use Rattle.state.specs.View.{waiting}
+use Rattle.state.specs.Ready.{front}
 use Rattle.state.specs.Starts.{Zero, Blank, Starts}
 use Rattle.state.proofs.Tables.{past}
-use Rattle.state.proofs.Fresh.{zeros, fresh-view}
+use Rattle.state.proofs.Fresh.{zeros, word-zero, fresh-view}
 use Rattle.state.proofs.Behind.{behind-none}
 use Rattle.state.proofs.Listed.{listed-none}
 use Rattle.state.proofs.Stores.{fill-in, length-fill, fill-on}
@@ -25,6 +27,11 @@ parts-zero z b l e r i =
     below? i (size z r)
     (λ h. sym (parts-get z b r i h) ∙ e (off z r + i))
     (λ h. past (parts z b r) i (rw (parts-whole z b l .all r) h))
+
+-- nobody stands in line
+none-lined : (line order : List ℕ) (place : ℕ → ℕ) {a p : ℕ} → a ≡ 0 → p ≡ 0 → front line a ≡ by-last order place p
+unfolding waiting by-last
+none-lined line order place ea ep = rw (ea, ep)
 
 -- the first k owners are stored
 abbrev pub owned-by : Parts → List ℕ → ℕ → Parts
@@ -67,16 +74,22 @@ module _ (nodes : ℕ) (owners : List ℕ) (x : Slices) (blank : Blank (length o
   pub starts : (b : List ℕ) → bytes m b ≡ owned-by (bytes m (set (x .bytes) (off (byte-sizes m) NODES) nodes)) owners m → Starts nodes owners (slices b (x .listed) (x .value) (x .seen) (x .sheets))
   starts b q = let e : bytes m b ≡ d′ = q ∙ rw (parts-set (byte-sizes m) (x .bytes) NODES 0 (omega arith) nodes) in record {
     shows = rw e
-        (fresh-view m d′ (x .value) (x .seen) (x .sheets) (zero PLACED 0) (zero PHASE) (zero FAILED) (zero RUNS) (zero PLACE) (zero TAKEN) (zero MARK) (zero CLAIM) (blank .value0) (blank .seen0) (blank .sheets0)
+        (fresh-view m d′ (x .value) (x .seen) (x .sheets) (zero PLACED) (zero PHASE) (zero FAILED) (zero RUNS) (zero PLACE) (zero TAKEN) (zero MET) (zero MARK) (zero CLAIM) (blank .value0) (blank .seen0) (blank .sheets0)
         ∙ ap fresh (λ i. record { nodes = counted i; sheets = m; owner = fun-ext owned i }));
     fit = record {
       shaped = rw e record {
         whole = whole-put (whole-store (parts-whole (byte-sizes m) (x .bytes) (blank .bytes)) NODES 0 nodes) OWNER (d′ OWNER) (rw length-fill (parts-whole (byte-sizes m) (x .bytes) (blank .bytes) .all OWNER));
-        fits = rw (zero PLACED 0) (omega arith);
+        fits = rw (word-zero (d PLACED) (zero PLACED) 0) (omega arith);
       };
       hints = rw e record {
         whole = parts-whole (hint-sizes m) (x .listed) (blank .listed);
-        behind = behind-none _ _ _ _ (zero GONE);
+        trimmed = record {
+          few = rw (zero LINED 0) (omega arith);
+          met = λ n. rw (zero MET n) (omega arith);
+          small = λ q l. absurd (not-suc-le-zero (rw (zero LINED 0) at l));
+          behind = behind-none _ _ _ _ (zero GONE);
+        };
+        lined = record { all = none-lined _ _ _ (zero LINED 0) (word-zero (d PLACED) (zero PLACED) 0); met = λ n. none-lined _ _ _ (zero MET n) (word-zero (d TAKEN) (zero TAKEN) n) };
         listed = listed-none m _ _ _ (zero CLAIM) (parts-zero (hint-sizes m) (x .listed) (blank .listed) (blank .listed0) MANY);
       };
       value = blank .value;

@@ -1,5 +1,6 @@
 pub mod Cells
 pub mod Parts
+pub mod Words
 pub mod Changes
 pub mod Tables
 pub mod Codes
@@ -9,6 +10,7 @@ pub mod Places
 pub mod Steps
 pub mod Ready
 pub mod Behind
+pub mod InLine
 pub mod Listed
 pub mod Fresh
 pub mod Blank

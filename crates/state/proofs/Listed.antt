@@ -87,11 +87,11 @@ module _ {k n : ℕ} {place listed : ℕ → ℕ} (l : Lists k place listed n) w
 
 -- a row anew, the others as they were
 pub listed-row : {m : ℕ} {claim listed many : List ℕ} → Listed m claim listed many
-    → (mark more : List ℕ) (t n : ℕ) → t < length many → t * m + m ≤ length claim → n ≤ m
-    → Lists m (λ k. getD mark (t * m + k) 0) (λ i. getD more (t * m + i) 0) n
+    → (f : ℕ → ℕ) (more : List ℕ) (t n : ℕ) → t < length many → t * m + m ≤ length claim → n ≤ m
+    → Lists m f (λ i. getD more (t * m + i) 0) n
     → ((x y : ℕ) → x ≢ t → y < m → getD more (x * m + y) 0 ≡ getD listed (x * m + y) 0)
-    → Listed m (fill (λ j. getD mark (t * m + j) 0) (t * m) m claim) more (set many t n)
-listed-row {m} {claim} {listed} {many} l mark more t n lt lc nm row other = record {
+    → Listed m (fill f (t * m) m claim) more (set many t n)
+listed-row {m} {claim} {listed} {many} l f more t n lt lc nm row other = record {
   few = λ x h. same? x t
       (λ e. rw (e, getD-set-same many t n 0 lt) nm)
       (λ z. rw (getD-set-other many t x n 0 z) (l .few x h));
@@ -100,21 +100,21 @@ listed-row {m} {claim} {listed} {many} l mark more t n lt lc nm row other = reco
       (λ z. rw (getD-set-other many t x n 0 z) (old x h z));
 }
   where
-    new : Lists m (λ k. getD mark (t * m + k) 0) (λ i. getD more (t * m + i) 0) n
-        → Lists m (λ k. getD (fill (λ j. getD mark (t * m + j) 0) (t * m) m claim) (t * m + k) 0) (λ i. getD more (t * m + i) 0) n
+    new : Lists m f (λ i. getD more (t * m + i) 0) n
+        → Lists m (λ k. getD (fill f (t * m) m claim) (t * m + k) 0) (λ i. getD more (t * m + i) 0) n
     new r = record {
       below = r .below;
       rising = r .rising;
-      whole = λ k h z. r .whole k h (λ e. z (fill-in (λ j. getD mark (t * m + j) 0) (t * m) m claim k h lc ∙ e));
+      whole = λ k h z. r .whole k h (λ e. z (fill-in f (t * m) m claim k h lc ∙ e));
     }
 
     old : (x : ℕ) → x < 32 → x ≢ t
-        → Lists m (λ k. getD (fill (λ j. getD mark (t * m + j) 0) (t * m) m claim) (x * m + k) 0) (λ i. getD more (x * m + i) 0) (getD many x 0)
+        → Lists m (λ k. getD (fill f (t * m) m claim) (x * m + k) 0) (λ i. getD more (x * m + i) 0) (getD many x 0)
     old x h z = record {
-      below = λ i j. let f = l .few x h in rw (other x i z (omega arith)) (l .lists x h .below i j);
-      rising = λ i j g u. let f = l .few x h in rw (other x i z (omega arith), other x j z (omega arith)) (l .lists x h .rising i j g u);
+      below = λ i j. let few = l .few x h in rw (other x i z (omega arith)) (l .lists x h .below i j);
+      rising = λ i j g u. let few = l .few x h in rw (other x i z (omega arith), other x j z (omega arith)) (l .lists x h .rising i j g u);
       whole = λ k j c.
-          let w = l .lists x h .whole k j (λ e. c (fill-out (λ j. getD mark (t * m + j) 0) (t * m) m claim (x * m + k) (λ y r q. z (cell-same m j r q)) ∙ e)) in
-          let f = l .few x h in
+          let w = l .lists x h .whole k j (λ e. c (fill-out f (t * m) m claim (x * m + k) (λ y r q. z (cell-same m j r q)) ∙ e)) in
+          let few = l .few x h in
           (w .0, w .1, other x (w .0) z (omega (arith, w .1)) ∙ w .2);
     }

@@ -1,5 +1,5 @@
 -- A slice's regions, which stand one after the other.
-use Prim.Native.Nat.{ℕ, zero, suc, _+_, _*_}
+use Prim.Native.Nat.{ℕ, zero, suc, _+_, _*_, _/_, _%_}
 use mathlib.Core.Bool.{cond}
 use mathlib.Core.List.{List, [], _∷_}
 use lib.ListN.{length, getD, take, drop, set}
@@ -32,6 +32,15 @@ put p r l q = cond (eqb q r) l (p q)
 abbrev pub store : Parts → ℕ → ℕ → ℕ → Parts
 store p r i v = put p r (set (p r) i v)
 
+-- ---- Numbers of two bytes, the low one first
+
+unfoldable pub word : List ℕ → ℕ → ℕ
+word l i = getD l (2 * i) 0 + 256 * getD l (2 * i + 1) 0
+
+-- number i of region r becomes v
+abbrev pub store-word : Parts → ℕ → ℕ → ℕ → Parts
+store-word p r i v = store (store p r (2 * i) (v % 256)) r (2 * i + 1) (v / 256)
+
 -- ---- The regions of the bytes, of m sheets: those of one size first
 
 abbrev pub PHASE : ℕ
@@ -43,8 +52,8 @@ FAILED = 1
 abbrev pub RUNS : ℕ
 RUNS = 2
 
-abbrev pub ORDER : ℕ
-ORDER = 3
+abbrev pub LINE : ℕ
+LINE = 3
 
 abbrev pub PLACE : ℕ
 PLACE = 4
@@ -52,29 +61,42 @@ PLACE = 4
 abbrev pub TAKEN : ℕ
 TAKEN = 5
 
+abbrev pub MET : ℕ
+MET = 6
+
 abbrev pub GONE : ℕ
-GONE = 6
+GONE = 7
 
 abbrev pub NODES : ℕ
-NODES = 7
+NODES = 8
+
+abbrev pub LINED : ℕ
+LINED = 9
 
 abbrev pub PLACED : ℕ
-PLACED = 8
+PLACED = 10
 
 abbrev pub STANDING : ℕ
-STANDING = 9
+STANDING = 11
+
+abbrev pub ORDER : ℕ
+ORDER = 12
 
 abbrev pub OWNER : ℕ
-OWNER = 10
+OWNER = 13
 
 abbrev pub MARK : ℕ
-MARK = 11
+MARK = 14
 
 abbrev pub CLAIM : ℕ
-CLAIM = 12
+CLAIM = 15
+
+-- places that the order has room for: a place takes two commands of two bytes each
+abbrev pub most-places : ℕ
+most-places = 4096
 
 abbrev pub byte-sizes : ℕ → List ℕ
-byte-sizes m = 32 ∷ 32 ∷ 32 ∷ 32 ∷ 32 ∷ 8 ∷ 8 ∷ 1 ∷ 1 ∷ 256 ∷ m ∷ 32 * m ∷ 32 * m ∷ []
+byte-sizes m = 32 ∷ 32 ∷ 32 ∷ 32 ∷ 64 ∷ 16 ∷ 8 ∷ 8 ∷ 1 ∷ 1 ∷ 2 ∷ 256 ∷ most-places ∷ m ∷ 32 * m ∷ 32 * m ∷ []
 
 abbrev pub bytes : ℕ → List ℕ → Parts
 bytes m b = parts (byte-sizes m) b

@@ -1,22 +1,21 @@
 -- The rules' state that the slices show, and the paper's values of each answer.
 use Prim.Native.Nat.{ℕ, zero, suc, _+_, _*_}
 use mathlib.Core.Bool.{Bool, not, _&&_, cond}
-use mathlib.Core.List.{List}
+use mathlib.Core.List.{List, [], _∷_, _++_}
 use lib.ListN.{getD, take}
 use lib.Dec.{eqb, ltb, leb}
 use Rattle.rules.specs.Bytes.{Header}
-use Rattle.rules.specs.State.{Phase, unused, first, submitted, second, committed, dropped, Mark, absent, copied, written, Claim, unclaimed, shared, exclusive, Tally, State, claims}
+use Rattle.rules.specs.State.{Phase, unused, first, submitted, second, committed, dropped, Mark, absent, copied, written, Claim, unclaimed, shared, exclusive, Tally, State, claims, at}
 use Rattle.rules.specs.Steps as rules
 use Rattle.rules.specs.Steps.{Result, answered, refused, counted, counted-first, counted-second}
-use Rattle.state.specs.Parts.{Parts, CONTENT, WCT, MARK, CLAIM, STANDING, OWNER, PHASE, FAILED, RUNS, ORDER, PLACE, TAKEN, NODES, PLACED}
+use Rattle.state.specs.Parts.{Parts, word, CONTENT, WCT, MARK, CLAIM, STANDING, OWNER, PHASE, FAILED, RUNS, LINE, LINED, MET, ORDER, PLACE, TAKEN, NODES, PLACED}
 use Rattle.state.specs.declared.Rule.{Rule}
 use Rattle.state.specs.declared.Rule.the-variants.{XGranted, XWaiting, CounterBehind}
 use Rattle.state.specs.declared.Cause.{Cause}
 use Rattle.state.specs.declared.Verdict.{Verdict}
 use Rattle.state.specs.declared.Verdict.the-variants.{Valid, Invalid}
 use Rattle.state.specs.declared.Answer.{Answer}
-use Rattle.state.specs.declared.Answer.the-variants.{Accepted, Content, Took, Commits, SecondRun, Recommits, Refused}
-use Rattle.rules.proofs.Places.{entries}
+use Rattle.state.specs.declared.Answer.the-variants.{Accepted, Content, Took, Commits, CommitsLater, SecondRun, Recommits, Refused}
 
 -- ---- Numbers as the rules' terms
 
@@ -45,13 +44,21 @@ as-claim (suc (suc c)) = exclusive
 abbrev pub set? : ℕ → Bool
 set? m = not (eqb m 0)
 
--- ---- Single bytes
+-- ---- Single numbers
 
 abbrev pub nodes : Parts → ℕ
 nodes d = getD (d NODES) 0 0
 
+-- how many places the order has, and how many saves stand in line
 abbrev pub placed : Parts → ℕ
-placed d = getD (d PLACED) 0 0
+placed d = word (d PLACED) 0
+
+abbrev pub lined : Parts → ℕ
+lined d = getD (d LINED) 0 0
+
+-- a save's last place
+abbrev pub place-in : Parts → ℕ → ℕ
+place-in d t = word (d PLACE) t
 
 -- ---- Tables
 
@@ -66,9 +73,14 @@ claim-in m claim t k = as-claim (flat m claim t k)
 unfoldable pub entered : (m : ℕ) → (standing claim : List ℕ) → (n k t : ℕ) → Bool
 entered m standing claim n k t = set? (getD standing (n * 32 + t) 0) && claims (claim-in m claim t k)
 
--- the queue of sheet k of node n, which has taken `upto` places
-abbrev pub queue-in : (m : ℕ) → (order : List ℕ) → (place : ℕ → ℕ) → (standing claim : List ℕ) → (n k upto : ℕ) → List ℕ
-queue-in m order place standing claim n k upto = entries order place (entered m standing claim n k) upto
+-- the saves of test f among the first p of the line
+unfoldable pub waiting : (line : List ℕ) → (ℕ → Bool) → (p : ℕ) → List ℕ
+waiting line f zero = []
+waiting line f (suc p) = cond (f (at line p)) (waiting line f p ++ at line p ∷ []) (waiting line f p)
+
+-- the queue of sheet k of node n, which has taken the first `met` saves of the line
+abbrev pub queue-in : (m : ℕ) → (line standing claim : List ℕ) → (n k met : ℕ) → List ℕ
+queue-in m line standing claim n k met = waiting line (entered m standing claim n k) met
 
 abbrev pub header-of : ℕ → ℕ → List ℕ → Header
 header-of n m owner = record { nodes = n; sheets = m; owner = λ k. getD owner k 0 }
@@ -78,7 +90,7 @@ abbrev pub view : ℕ → Parts → (value seen w : List ℕ) → Tally → Stat
 view m d value seen w tally = record {
   header = header-of (nodes d) m (d OWNER);
   sheet = λ k. record { content = flat m w CONTENT k; wct = flat m w WCT k };
-  queue = λ k. queue-in m (d ORDER) (λ t. getD (d PLACE) t 0) (d STANDING) (d CLAIM) (getD (d OWNER) k 0) k (getD (d TAKEN) (getD (d OWNER) k 0) 0);
+  queue = λ k. queue-in m (d LINE) (d STANDING) (d CLAIM) (getD (d OWNER) k 0) k (getD (d MET) (getD (d OWNER) k 0) 0);
   phase = λ t. as-phase (getD (d PHASE) t 0);
   mark = λ t k. as-mark (flat m (d MARK) t k);
   copy = λ t k. record { content = flat m value t k; wct = flat m seen t k };
@@ -86,8 +98,8 @@ view m d value seen w tally = record {
   failed = λ t. set? (getD (d FAILED) t 0);
   runs = λ t. getD (d RUNS) t 0;
   order = take (placed d) (d ORDER);
-  place = λ t. getD (d PLACE) t 0;
-  taken = λ n. getD (d TAKEN) n 0;
+  place = place-in d;
+  taken = λ n. word (d TAKEN) n;
   tally = tally;
 }
 
@@ -117,6 +129,7 @@ result-of Accepted = answered rules.accepted
 result-of (Content v) = answered (rules.content-is v)
 result-of (Took t v) = answered (rules.took t (verdict-of v))
 result-of Commits = answered rules.commits
+result-of CommitsLater = answered rules.commits
 result-of SecondRun = answered rules.second-run
 result-of Recommits = answered rules.accepted
 result-of (Refused n) = refused n
@@ -127,6 +140,7 @@ advanced a Accepted = counted a
 advanced a (Content v) = counted a
 advanced a (Took t v) = counted a
 advanced a Commits = counted-first a
+advanced a CommitsLater = counted-second a
 advanced a SecondRun = counted a
 advanced a Recommits = counted-second a
 advanced a (Refused n) = a

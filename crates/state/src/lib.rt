@@ -4,16 +4,16 @@
 // The bytes `b` have their tables as regions, one after the other; `listed` has, for each save, how many sheets it claims and which; `value`
 // and `seen` have a row for each save, with the contents of its copies and the WCTs seen; `w` has the sheets' contents, then their WCTs.
 // What a command looks at and changes has a function here, so that no command knows where a region starts.
-ghost use Prim.Native.Nat.{_+_, _*_, _≤_, _<_};
+ghost use Prim.Native.Nat.{_+_, _*_, _/_, _%_, _≤_, _<_};
 ghost use mathlib.Core.Path.{_≡_};
 ghost use mathlib.Core.Bool.{_||_};
 ghost use lib.Dec.{eqb};
 ghost use lib.ListN.{length, getD, set};
-ghost use Rattle.state.specs.Parts.{off, byte-sizes, hint-sizes, bytes, hints, store, MARK, CLAIM, STANDING, OWNER, PHASE, FAILED, RUNS, ORDER, PLACE, TAKEN, GONE, NODES, PLACED, MANY, LISTED};
+ghost use Rattle.state.specs.Parts.{off, most-places, byte-sizes, hint-sizes, bytes, hints, word, store, MARK, CLAIM, STANDING, OWNER, PHASE, FAILED, RUNS, LINE, ORDER, PLACE, TAKEN, MET, GONE, NODES, LINED, PLACED, MANY, LISTED};
 ghost use Rattle.state.specs.Slices.{slices};
-ghost use Rattle.state.specs.View.{placed, out-of-phase};
+ghost use Rattle.state.specs.View.{placed, lined, out-of-phase};
 ghost use Rattle.state.specs.Ready.{Whole, Ready};
-ghost use Rattle.state.specs.Changes.{entering, joining, moving-on};
+ghost use Rattle.state.specs.Changes.{entering, placing, lining-up, passing, meeting, moving-on};
 ghost use Rattle.state.specs.Starts.{Blank, Starts};
 
 // The phases of a save.
@@ -66,33 +66,46 @@ impl Session {
 
     pub const STORE: usize = 2 * Session::SHEETS;
 
-    // Where the regions of the bytes start. Phases, failed marks, runs entered and places go by save, the order by place.
+    // Places that the order has room for: a place takes two commands of two bytes each.
+    pub const PLACES: usize = 4096;
+
+    // Where the regions of the bytes start. Phases, failed marks, runs entered and last places go by save.
     const PHASE: usize = 0;
 
     const FAILED: usize = Session::PHASE + Session::SAVES;
 
     const RUNS: usize = Session::FAILED + Session::SAVES;
 
-    const ORDER: usize = Session::RUNS + Session::SAVES;
+    // The line: the saves with a place, by last place.
+    const LINE: usize = Session::RUNS + Session::SAVES;
 
-    const PLACE: usize = Session::ORDER + Session::SAVES;
+    // Numbers of places have two bytes, the low one first.
+    const PLACE: usize = Session::LINE + Session::SAVES;
 
     // How many places each node has taken.
-    const TAKEN: usize = Session::PLACE + Session::SAVES;
+    const TAKEN: usize = Session::PLACE + 2 * Session::SAVES;
 
-    // A hint: how many places at the front of the order have no entry at each node any more.
-    const GONE: usize = Session::TAKEN + Session::NODES;
+    // How many saves of the line each node has met, which is taken their last place.
+    const MET: usize = Session::TAKEN + 2 * Session::NODES;
+
+    // A hint: how many saves at the front of the line have no entry at each node any more.
+    const GONE: usize = Session::MET + Session::NODES;
 
     const NODE_COUNT: usize = Session::GONE + Session::NODES;
 
-    // How many places the order has.
-    const PLACED: usize = Session::NODE_COUNT + 1;
+    // How many saves stand in line, and how many places the order has.
+    const LINED: usize = Session::NODE_COUNT + 1;
 
-    // Row n is node n's: 1 from the TAKE of a save with a sheet there to its APPLY.
-    const STANDING: usize = Session::PLACED + 1;
+    const PLACED: usize = Session::LINED + 1;
+
+    // Row n is node n's: 1 from the TAKE of a save with a sheet there to its APPLY. It counts where the node has met the save.
+    const STANDING: usize = Session::PLACED + 2;
+
+    // The order: the save at each place.
+    const ORDER: usize = Session::STANDING + Session::NODES * Session::SAVES;
 
     // The owners, a byte for each sheet; behind them the marks and then the claims, a row for each save.
-    const OWNER: usize = Session::STANDING + Session::NODES * Session::SAVES;
+    const OWNER: usize = Session::ORDER + Session::PLACES;
 
     // Where the counts start in the lists; behind them the sheets, a row for each save.
     const MANY: usize = 0;
@@ -121,18 +134,19 @@ pub enum Verdict {
     Invalid(Cause),
 }
 
-// `Recommits` is a second run's SUBMIT: accepted, and the tally counts it.
+// `CommitsLater` is a DECIDE of a save that has run again, `Recommits` a later run's SUBMIT that is accepted and commits: the tally tells them.
 pub enum Answer {
     Accepted,
     Content(u32),
     Took(u8, Verdict),
     Commits,
+    CommitsLater,
     SecondRun,
     Recommits,
     Refused(u8),
 }
 
-// A save of phase p is in its first or second run.
+// A save of phase p is in its first run or a later one.
 pub fn running(p: u8) -> bool
     ensures { λ r. ⌜ r ≡ (eqb p 1 || eqb p 3) ⌝ }
 {
@@ -181,6 +195,29 @@ pub fn lists(m: usize, t: usize) -> usize
     Session::SAVES + t * m
 }
 
+// ---- Numbers of two bytes
+
+fn word(lo: u8, hi: u8) -> u16
+    ensures { λ r. ⌜ r ≡ lo + 256 * hi ⌝ }
+{
+    (lo as u16) + 256 * (hi as u16)
+}
+
+fn word_at(b: &[u8], at: usize) -> u16
+    requires { ⌜ at + 1 < length (now b) ⌝ }
+    ensures { λ r. ⌜ r ≡ getD (now (b .entry)) at 0 + 256 * getD (now (b .entry)) (at + 1) 0 ⌝ }
+{
+    word(b[at], b[at + 1])
+}
+
+fn set_word(b: &mut [u8], at: usize, v: u16)
+    requires { ⌜ at + 1 < length (now b) ⌝ }
+    ensures { λ _. ⌜ now (b .exit) ≡ set (set (now (b .entry)) at (v % 256)) (at + 1) (v / 256) ⌝ }
+{
+    b[at] = (v % 256) as u8;
+    b[at + 1] = (v / 256) as u8;
+}
+
 // ---- What a command looks at
 
 // The phase of save t.
@@ -209,29 +246,53 @@ pub fn runs(b: &[u8], m: usize, t: usize) -> u8
 
 // The save at place q of the order.
 pub fn order(b: &[u8], m: usize, q: usize) -> u8
-    requires { ⌜ Whole (byte-sizes m) (bytes m (now b)) × (q < 32) ⌝ }
+    requires { ⌜ Whole (byte-sizes m) (bytes m (now b)) × (q < most-places) ⌝ }
     ensures { λ r. ⌜ r ≡ getD (bytes m (now (b .entry)) ORDER) q 0 ⌝ }
 {
     b[Session::ORDER + q]
 }
 
-// Save t's place in the order.
-pub fn place(b: &[u8], m: usize, t: usize) -> u8
+// Save t's last place in the order.
+pub fn place(b: &[u8], m: usize, t: usize) -> u16
     requires { ⌜ Whole (byte-sizes m) (bytes m (now b)) × (t < 32) ⌝ }
-    ensures { λ r. ⌜ r ≡ getD (bytes m (now (b .entry)) PLACE) t 0 ⌝ }
+    ensures { λ r. ⌜ r ≡ word (bytes m (now (b .entry)) PLACE) t ⌝ }
 {
-    b[Session::PLACE + t]
+    word_at(b, Session::PLACE + 2 * t)
 }
 
 // How many places node n has taken.
-pub fn taken(b: &[u8], m: usize, n: usize) -> u8
+pub fn taken(b: &[u8], m: usize, n: usize) -> u16
     requires { ⌜ Whole (byte-sizes m) (bytes m (now b)) × (n < 8) ⌝ }
-    ensures { λ r. ⌜ r ≡ getD (bytes m (now (b .entry)) TAKEN) n 0 ⌝ }
+    ensures { λ r. ⌜ r ≡ word (bytes m (now (b .entry)) TAKEN) n ⌝ }
 {
-    b[Session::TAKEN + n]
+    word_at(b, Session::TAKEN + 2 * n)
 }
 
-// How many places node n has behind it.
+// The save that stands at i in line.
+pub fn in_line(b: &[u8], m: usize, i: usize) -> u8
+    requires { ⌜ Whole (byte-sizes m) (bytes m (now b)) × (i < 32) ⌝ }
+    ensures { λ r. ⌜ r ≡ getD (bytes m (now (b .entry)) LINE) i 0 ⌝ }
+{
+    b[Session::LINE + i]
+}
+
+// How many saves stand in line.
+pub fn lined(b: &[u8], m: usize) -> u8
+    requires { ⌜ Whole (byte-sizes m) (bytes m (now b)) ⌝ }
+    ensures { λ r. ⌜ r ≡ getD (bytes m (now (b .entry)) LINED) 0 0 ⌝ }
+{
+    b[Session::LINED]
+}
+
+// How many saves of the line node n has met.
+pub fn met(b: &[u8], m: usize, n: usize) -> u8
+    requires { ⌜ Whole (byte-sizes m) (bytes m (now b)) × (n < 8) ⌝ }
+    ensures { λ r. ⌜ r ≡ getD (bytes m (now (b .entry)) MET) n 0 ⌝ }
+{
+    b[Session::MET + n]
+}
+
+// How many saves of the line node n has behind it.
 pub fn gone(b: &[u8], m: usize, n: usize) -> u8
     requires { ⌜ Whole (byte-sizes m) (bytes m (now b)) × (n < 8) ⌝ }
     ensures { λ r. ⌜ r ≡ getD (bytes m (now (b .entry)) GONE) n 0 ⌝ }
@@ -248,11 +309,11 @@ pub fn nodes(b: &[u8], m: usize) -> u8
 }
 
 // How many places the order has.
-pub fn placed(b: &[u8], m: usize) -> u8
+pub fn placed(b: &[u8], m: usize) -> u16
     requires { ⌜ Whole (byte-sizes m) (bytes m (now b)) ⌝ }
-    ensures { λ r. ⌜ r ≡ getD (bytes m (now (b .entry)) PLACED) 0 0 ⌝ }
+    ensures { λ r. ⌜ r ≡ placed (bytes m (now (b .entry))) ⌝ }
 {
-    b[Session::PLACED]
+    word_at(b, Session::PLACED)
 }
 
 // 1 where save t has entries at node n.
@@ -331,35 +392,87 @@ pub fn enter_run(b: &mut [u8], m: usize, t: usize, p: u8)
     b[Session::RUNS + t] = r + 1;
 }
 
-// Save t is marked failed.
-pub fn fail(b: &mut [u8], m: usize, t: usize)
+// Save t is marked failed, if f is 1, or not, if it is 0.
+pub fn set_failed(b: &mut [u8], m: usize, t: usize, f: u8)
     requires { ⌜ Whole (byte-sizes m) (bytes m (now b)) × (t < 32) ⌝ }
-    ensures { λ _. ⌜ bytes m (now (b .exit)) ≡ store (bytes m (now (b .entry))) FAILED t 1 ⌝ }
+    ensures { λ _. ⌜ bytes m (now (b .exit)) ≡ store (bytes m (now (b .entry))) FAILED t f ⌝ }
 {
-    b[Session::FAILED + t] = 1;
+    b[Session::FAILED + t] = f;
 }
 
-// Save t joins the end of the order.
-pub fn join(b: &mut [u8], m: usize, t: u8)
-    requires { ⌜ Whole (byte-sizes m) (bytes m (now b)) × (t < 32) × (placed (bytes m (now b)) < 32) ⌝ }
-    ensures { λ _. ⌜ bytes m (now (b .exit)) ≡ joining (bytes m (now (b .entry))) t ⌝ }
+// Save t takes a place at the end of the order.
+pub fn take_place(b: &mut [u8], m: usize, t: u8)
+    requires { ⌜ Whole (byte-sizes m) (bytes m (now b)) × (t < 32) × (placed (bytes m (now b)) < most-places) ⌝ }
+    ensures { λ _. ⌜ bytes m (now (b .exit)) ≡ placing (bytes m (now (b .entry))) t ⌝ }
 {
-    let p = b[Session::PLACED];
+    let p = word_at(b, Session::PLACED);
     b[Session::ORDER + (p as usize)] = t;
-    b[Session::PLACE + (t as usize)] = p;
-    b[Session::PLACED] = p + 1;
+    set_word(b, Session::PLACE + 2 * (t as usize), p);
+    set_word(b, Session::PLACED, p + 1);
+}
+
+// Save t stands at the end of the line.
+pub fn line_up(b: &mut [u8], m: usize, t: u8)
+    requires { ⌜ Whole (byte-sizes m) (bytes m (now b)) × (lined (bytes m (now b)) < 32) ⌝ }
+    ensures { λ _. ⌜ bytes m (now (b .exit)) ≡ lining-up (bytes m (now (b .entry))) t ⌝ }
+{
+    let c = b[Session::LINED];
+    b[Session::LINE + (c as usize)] = t;
+    b[Session::LINED] = c + 1;
+}
+
+// Save u stands at i in line.
+pub fn set_in_line(b: &mut [u8], m: usize, i: usize, u: u8)
+    requires { ⌜ Whole (byte-sizes m) (bytes m (now b)) × (i < 32) ⌝ }
+    ensures { λ _. ⌜ bytes m (now (b .exit)) ≡ store (bytes m (now (b .entry))) LINE i u ⌝ }
+{
+    b[Session::LINE + i] = u;
+}
+
+// So many saves stand in line.
+pub fn set_lined(b: &mut [u8], m: usize, c: u8)
+    requires { ⌜ Whole (byte-sizes m) (bytes m (now b)) ⌝ }
+    ensures { λ _. ⌜ bytes m (now (b .exit)) ≡ store (bytes m (now (b .entry))) LINED 0 c ⌝ }
+{
+    b[Session::LINED] = c;
 }
 
 // Node n has taken one place more.
-pub fn move_on(b: &mut [u8], m: usize, n: usize)
-    requires { ⌜ Whole (byte-sizes m) (bytes m (now b)) × (n < 8) × (getD (bytes m (now b) TAKEN) n 0 < 32) ⌝ }
-    ensures { λ _. ⌜ bytes m (now (b .exit)) ≡ moving-on (bytes m (now (b .entry))) n ⌝ }
+pub fn pass(b: &mut [u8], m: usize, n: usize)
+    requires { ⌜ Whole (byte-sizes m) (bytes m (now b)) × (n < 8) × (word (bytes m (now b) TAKEN) n < most-places) ⌝ }
+    ensures { λ _. ⌜ bytes m (now (b .exit)) ≡ passing (bytes m (now (b .entry))) n ⌝ }
 {
-    let p = b[Session::TAKEN + n];
-    b[Session::TAKEN + n] = p + 1;
+    let p = word_at(b, Session::TAKEN + 2 * n);
+    set_word(b, Session::TAKEN + 2 * n, p + 1);
 }
 
-// Node n has g places behind it.
+// Node n has met one save of the line more.
+fn meet(b: &mut [u8], m: usize, n: usize)
+    requires { ⌜ Whole (byte-sizes m) (bytes m (now b)) × (n < 8) × (getD (bytes m (now b) MET) n 0 < 32) ⌝ }
+    ensures { λ _. ⌜ bytes m (now (b .exit)) ≡ meeting (bytes m (now (b .entry))) n ⌝ }
+{
+    let c = b[Session::MET + n];
+    b[Session::MET + n] = c + 1;
+}
+
+// Node n has taken the last place of the next save in line.
+pub fn move_on(b: &mut [u8], m: usize, n: usize)
+    requires { ⌜ Whole (byte-sizes m) (bytes m (now b)) × (n < 8) × (word (bytes m (now b) TAKEN) n < most-places) × (getD (bytes m (now b) MET) n 0 < 32) ⌝ }
+    ensures { λ _. ⌜ bytes m (now (b .exit)) ≡ moving-on (bytes m (now (b .entry))) n ⌝ }
+{
+    pass(b, m, n);
+    meet(b, m, n);
+}
+
+// Node n has met so many saves of the line.
+pub fn set_met(b: &mut [u8], m: usize, n: usize, c: u8)
+    requires { ⌜ Whole (byte-sizes m) (bytes m (now b)) × (n < 8) ⌝ }
+    ensures { λ _. ⌜ bytes m (now (b .exit)) ≡ store (bytes m (now (b .entry))) MET n c ⌝ }
+{
+    b[Session::MET + n] = c;
+}
+
+// Node n has g saves of the line behind it.
 pub fn set_gone(b: &mut [u8], m: usize, n: usize, g: u8)
     requires { ⌜ Whole (byte-sizes m) (bytes m (now b)) × (n < 8) ⌝ }
     ensures { λ _. ⌜ bytes m (now (b .exit)) ≡ store (bytes m (now (b .entry))) GONE n g ⌝ }

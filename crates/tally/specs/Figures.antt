@@ -2,7 +2,7 @@
 use Prim.Native.Nat.{ℕ, _+_, _<_}
 use Rattle.rules.specs.State as rules
 use Rattle.state.specs.declared.Answer.{Answer}
-use Rattle.state.specs.declared.Answer.the-variants.{Accepted, Content, Took, Commits, SecondRun, Recommits, Refused}
+use Rattle.state.specs.declared.Answer.the-variants.{Accepted, Content, Took, Commits, CommitsLater, SecondRun, Recommits, Refused}
 use Rattle.tally.specs.declared.Tally.{Tally}
 
 abbrev pub figures : Tally → rules.Tally
@@ -16,6 +16,7 @@ accepts-of Accepted = 1
 accepts-of (Content v) = 1
 accepts-of (Took t v) = 1
 accepts-of Commits = 1
+accepts-of CommitsLater = 1
 accepts-of SecondRun = 1
 accepts-of Recommits = 1
 accepts-of (Refused n) = 0
@@ -25,6 +26,7 @@ commits-of Accepted = 0
 commits-of (Content v) = 0
 commits-of (Took t v) = 0
 commits-of Commits = 1
+commits-of CommitsLater = 0
 commits-of SecondRun = 0
 commits-of Recommits = 0
 commits-of (Refused n) = 0
@@ -34,6 +36,7 @@ recommits-of Accepted = 0
 recommits-of (Content v) = 0
 recommits-of (Took t v) = 0
 recommits-of Commits = 0
+recommits-of CommitsLater = 1
 recommits-of SecondRun = 0
 recommits-of Recommits = 1
 recommits-of (Refused n) = 0

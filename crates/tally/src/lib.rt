@@ -5,7 +5,7 @@ ghost use Prim.Native.Nat.{_+_, _<_, _^_};
 ghost use Rattle.state.specs.View.{advanced};
 ghost use Rattle.tally.specs.Figures.{figures, plus, accepts-of, commits-of, recommits-of, Room};
 
-// Commands accepted, saves committed from the first run, from the second.
+// Commands accepted, saves committed from the first run, from a later one.
 pub struct Tally {
     pub accepted: u32,
     pub first: u32,
@@ -41,6 +41,7 @@ fn accepts(a: Answer) -> u32
         Answer::Content(_) => 1,
         Answer::Took(_, _) => 1,
         Answer::Commits => 1,
+        Answer::CommitsLater => 1,
         Answer::SecondRun => 1,
         Answer::Recommits => 1,
         Answer::Refused(_) => 0,
@@ -56,13 +57,14 @@ fn commits(a: Answer) -> u32
         Answer::Content(_) => 0,
         Answer::Took(_, _) => 0,
         Answer::Commits => 1,
+        Answer::CommitsLater => 0,
         Answer::SecondRun => 0,
         Answer::Recommits => 0,
         Answer::Refused(_) => 0,
     }
 }
 
-// 1 where it committed a save from its second run.
+// 1 where it committed a save from a later run.
 fn recommits(a: Answer) -> u32
     ensures { λ r. ⌜ r ≡ recommits-of a ⌝ }
 {
@@ -71,6 +73,7 @@ fn recommits(a: Answer) -> u32
         Answer::Content(_) => 0,
         Answer::Took(_, _) => 0,
         Answer::Commits => 0,
+        Answer::CommitsLater => 1,
         Answer::SecondRun => 0,
         Answer::Recommits => 1,
         Answer::Refused(_) => 0,

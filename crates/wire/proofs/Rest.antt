@@ -10,8 +10,9 @@ use borrow.Author.Tests.{ltb-false}
 use lib.Dec.{ltb}
 use lib.ListN.{length, drop, length-drop}
 use lib.Seq.{drop-drop}
-use Rattle.rules.specs.Bytes.{Command, Form, Front, unknown, cut, whole, widths, front-by, front, form-of, commands, ended, stopped, more, read-from}
+use Rattle.rules.specs.Bytes.{Command, Form, Front, unknown, cut, whole, widths, values, front-by, front, form-of, commands, ended, stopped, more, read-from}
 use Rattle.rules.proofs.Table.{bool}
+use Rattle.rules.proofs.Writing.{in-table}
 use Rattle.wire.specs.Meaning.{front-in}
 
 -- operand bytes are passed over
@@ -87,3 +88,20 @@ module _ (b : List ℕ) (p : ℕ) where
     step-fits =
         let h = list-fits c w (drop p b) e in
         omega (arith, length-drop p b)
+
+-- every command has an operand
+some-operands : (b : ℕ) (f : Form) → form-of b commands ≡ some f → 1 ≤ widths (f .operands)
+some-operands b f e = in-table (λ f. 1 ≤ widths (f .operands)) commands (search arith) b f e
+
+pub has-operands : (b : List ℕ) (p : ℕ) (c : Command) (w : ℕ) → front-in (drop p b) ≡ some (whole c w) → 1 ≤ w
+has-operands b p c w e = go (drop p b) e
+  where
+    by-form : (o : Option Form) → ((f : Form) → o ≡ some f → 1 ≤ widths (f .operands)) → (bs : List ℕ) → front-by o bs ≡ whole c w → 1 ≤ w
+    by-form none h bs q = absurd (let z : _≡_ {A = ℕ} 0 1 = cc in omega arith)
+    by-form (some f) h bs q = bool (ltb (length bs) (widths (f .operands)))
+        (λ y. let r : cut ≡ whole c w = rw y at q in absurd (let z : _≡_ {A = ℕ} 0 1 = cc in omega arith))
+        (λ y. let r : whole (f .command (values (f .operands) bs)) (widths (f .operands)) ≡ whole c w = rw y at q in let z : widths (f .operands) ≡ w = cc in rw (← z) (h f refl))
+
+    go : (l : List ℕ) → front-in l ≡ some (whole c w) → 1 ≤ w
+    go [] q = absurd (let z : _≡_ {A = ℕ} 0 1 = cc in omega arith)
+    go (x ∷ bs) q = let f : front x bs ≡ whole c w = cc in by-form (form-of x commands) (some-operands x) bs f

@@ -75,6 +75,7 @@ fn print(a: Answer) {
             print_verdict(v);
         }
         Answer::Commits => say(b"commits\n"),
+        Answer::CommitsLater => say(b"commits\n"),
         Answer::SecondRun => say(b"second run\n"),
         Answer::Recommits => say(b"accepted\n"),
         Answer::Refused(n) => {

@@ -4,6 +4,7 @@ use native.Mathlib.Omega.{arith}
 use Rattle.rules.proofs.Demand3.{session-demand3}
 use Rattle.rules.proofs.Neighbours.{session-neighbours}
 use Rattle.rules.proofs.Changes.{session-changes}
+use Rattle.rules.proofs.Eight.{never-eight}
 use Rattle.text.proofs.Writing.{wrote-end}
 use Rattle.cusphewa.proofs.Laws.{short-buffer, filled, report-bad}
 use borrow.Author.Needs.{needs}
@@ -11,7 +12,7 @@ use Rattle.cusphewa.proofs.cusphewa_report.Statement.{statement}
 use Rattle.cusphewa.proofs.cusphewa_report.Tie as tie
 
 returns : tie.Need-returns
-returns c = let b = c .before .before .before .args .session .now in (short-buffer _ _ (c .if1 .taken), (session-demand3 b, (session-neighbours b, (session-changes b, omega arith))))
+returns c = let b = c .before .before .before .args .session .now in (short-buffer _ _ (c .if1 .taken), (session-demand3 b, (session-neighbours b, (session-changes b, (never-eight b, omega arith)))))
 
 read-header-requires : tie.Need-read-header-requires
 read-header-requires c κs = search needs
@@ -35,13 +36,13 @@ returns-2 : tie.Need-returns-2
 returns-2 c =
     let w = c .before .before .refusal-line .ensures in
     let b = c .before .before .before .before .before .before .before .before .before .before .args .session .now in
-    (filled _ _ (c .before .before .before .before .before .before .before .if1 .left) (omega arith) (report-bad _ (sym (c .before .before .before .before .enum-told .given .1) ∙ c .before .before .before .before .before .before .read-header .ensures)) w, (session-demand3 b, (session-neighbours b, (session-changes b, omega (arith, c .before .before .before .before .before .before .before .if1 .left, wrote-end w)))))
+    (filled _ _ (c .before .before .before .before .before .before .before .if1 .left) (omega arith) (report-bad _ (sym (c .before .before .before .before .enum-told .given .1) ∙ c .before .before .before .before .before .before .read-header .ensures)) w, (session-demand3 b, (session-neighbours b, (session-changes b, (never-eight b, omega (arith, c .before .before .before .before .before .before .before .if1 .left, wrote-end w))))))
 
 same-length-2 : tie.Need-same-length-2
 same-length-2 c = search needs
 
 returns-3 : tie.Need-returns-3
-returns-3 c = let b = c .before .before .before .before .before .before .before .before .before .before .before .args .session .now in (c .before .before .run .ensures .1 .0, (session-demand3 b, (session-neighbours b, (session-changes b, c .before .before .run .ensures .1 .1))))
+returns-3 c = let b = c .before .before .before .before .before .before .before .before .before .before .before .args .session .now in (c .before .before .run .ensures .1 .0, (session-demand3 b, (session-neighbours b, (session-changes b, (never-eight b, c .before .before .run .ensures .1 .1)))))
 
 pub cusphewa-report-spec : {M : Type 1} → statement M
 cusphewa-report-spec =

@@ -67,7 +67,7 @@ behind-requires : tie.Need-behind-requires
 behind-requires c κs = let s = c .before .before .before .before .before .before .before .before .before .before .before .before .before .before .before .before .before .before .before .before .before .before .before .before in
     let ln = rw (c .before .before .before .before .before .before .before .before .before .before .before .before .before .before .before .before .before .before .nodes .ensures) at (c .before .before .before .before .before .before .before .before .before .before .before .before .before .before .before .before .before .if1 .left) in
     let e = c .before .before .before .set-standing .ensures in
-    (ready-left (s .pre .0) (s .args .n) (s .args .t) ln (c .before .before .before .before .before .before .before .before .before .before .before .before .before .before .before .before .if2 .left) e, trimmed-left (s .pre .0) (s .args .n) (s .args .t) ln (c .before .before .before .before .before .before .before .before .before .before .before .before .before .before .before .before .if2 .left) e (s .pre .1 .behind), node8 (s .pre .0) (s .args .n) (s .args .t) ln (c .before .before .before .before .before .before .before .before .before .before .before .before .before .before .before .before .if2 .left))
+    (ready-left (s .pre .0) (s .args .n) (s .args .t) ln (c .before .before .before .before .before .before .before .before .before .before .before .before .before .before .before .before .if2 .left) e, trimmed-left (s .pre .0) (s .args .n) (s .args .t) ln (c .before .before .before .before .before .before .before .before .before .before .before .before .before .before .before .before .if2 .left) e (s .pre .1 .trimmed), node8 (s .pre .0) (s .args .n) (s .args .t) ln (c .before .before .before .before .before .before .before .before .before .before .before .before .before .before .before .before .if2 .left))
 
 set-gone-requires : tie.Need-set-gone-requires
 set-gone-requires c κs = let s = c .before .before .before .before .before .before .before .before .before .before .before .before .before .before .before .before .before .before .before .before .before .before .before .before .before .before in
@@ -86,7 +86,7 @@ returns-5 c = let s = c .before .before .before .before .before .before .before 
     let e₁ = c .before .before .before .before .before .before .before .before .set-standing .ensures in
     let r = c .before .before .before .before .behind in
     let e = stored (s .pre .0) (s .args .n) (s .args .t) ln (c .before .before .before .before .before .before .before .before .before .before .before .before .before .before .before .before .before .before .before .before .before .if2 .left) e₁ (r .result) (c .before .before .set-gone .ensures) in (
-      applying-moves (s .args .b .now) _ e (s .args .value .now) (s .args .w .now) _ (apply-steps (s .pre .0) (s .args .n) (s .args .t) ln (c .before .before .before .before .before .before .before .before .before .before .before .before .before .before .before .before .before .before .before .before .before .if2 .left) (c .before .before .before .before .before .before .before .before .before .before .before .before .before .before .before .before .before .before .before .phase .ensures) (s .args .value .now) (c .before .before .before .before .before .before .before .before .before .before .before .before .before .before .before .before .before .before .if3 .left) (c .before .before .before .before .before .before .before .before .before .before .before .before .before .before .before .before .has-entry .ensures) (not-false _ (c .before .before .before .before .before .before .before .before .before .before .before .before .before .before .before .if4 .left)) (c .before .before .before .before .before .before .before .before .before .before .before .before .carry-out .ensures) (r .result)),
+      applying-moves (s .args .b .now) _ e (s .args .value .now) (s .args .w .now) _ (apply-steps (s .pre .0) (s .args .n) (s .args .t) ln (c .before .before .before .before .before .before .before .before .before .before .before .before .before .before .before .before .before .before .before .before .before .if2 .left) (c .before .before .before .before .before .before .before .before .before .before .before .before .before .before .before .before .before .before .before .phase .ensures) (s .args .value .now) (s .pre .1 .trimmed) (c .before .before .before .before .before .before .before .before .before .before .before .before .before .before .before .before .before .before .if3 .left) (c .before .before .before .before .before .before .before .before .before .before .before .before .before .before .before .before .has-entry .ensures) (not-false _ (c .before .before .before .before .before .before .before .before .before .before .before .before .before .before .before .if4 .left)) (c .before .before .before .before .before .before .before .before .before .before .before .before .carry-out .ensures) (r .result)),
       (
         applying-keeps (s .args .b .now) _ e (s .args .value .now) (s .args .w .now) _ (c .before .before .before .before .before .before .before .before .before .before .before .before .carry-out .ensures .size) (holds-left (s .pre .0) (s .args .n) (s .args .t) ln (c .before .before .before .before .before .before .before .before .before .before .before .before .before .before .before .before .before .before .before .before .before .if2 .left) e₁ (r .result) (r .ensures .0) (r .ensures .1)),
         λ _. all-counted _ (c .before .before .before .before .before .before .before .before .before .before .before .before .carry-out .ensures) refl,

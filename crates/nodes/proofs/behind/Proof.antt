@@ -1,10 +1,10 @@
--- One place more has no entry.
+-- One save more has no entry.
 use Prim.Native.Nat.{ℕ, _+_, _*_, _-_, _≤_}
 use mathlib.Core.Path.{_≡_}
 use mathlib.Core.List.{List}
 use lib.ListN.{getD}
 use native.Mathlib.Omega.{arith}
-use Rattle.state.specs.Parts.{bytes, STANDING, ORDER}
+use Rattle.state.specs.Parts.{bytes, STANDING, LINE}
 use Rattle.state.specs.Ready.{Gone}
 use Rattle.state.proofs.Behind.{gone-on}
 use borrow.Author.Needs.{needs}
@@ -12,38 +12,38 @@ use Rattle.nodes.proofs.behind.Statement.{statement}
 use Rattle.nodes.proofs.behind.Tie as tie
 
 abbrev Inv-loop : tie.InvT-loop
-Inv-loop b m n upto q₀ q = (q ≤ upto) × Gone (bytes m b ORDER) (bytes m b STANDING) n q
+Inv-loop b m n upto q₀ q = (q ≤ upto) × Gone (bytes m b LINE) (bytes m b STANDING) n q
 
 abbrev μ-loop : tie.MeasureT-loop
 μ-loop b m n upto q₀ q = upto - q
 
--- what the code reads of the save at a place
+-- what the code reads of the save in line
 not-standing : (standing : List ℕ) (n : ℕ) {u v e : ℕ} → u ≡ v → e ≡ getD standing (n * 32 + u) 0 → e ≡ 0 → getD standing (n * 32 + v) 0 ≡ 0
 not-standing standing n eu es z = rw (← eu, ← es) z
 
-taken-requires : tie.Need-taken-requires Inv-loop μ-loop
-taken-requires c κs = (c .before .pre .0 .shaped .whole, c .before .pre .2)
+met-requires : tie.Need-met-requires Inv-loop μ-loop
+met-requires c κs = (c .before .pre .0 .shaped .whole, c .before .pre .2)
 
 gone-requires : tie.Need-gone-requires Inv-loop μ-loop
 gone-requires c κs = (c .before .before .pre .0 .shaped .whole, c .before .before .pre .2)
 
 loop-holds : tie.Need-loop-holds Inv-loop μ-loop
-loop-holds c = let s = c .before .before .before in (omega (arith, s .pre .1 .within (s .args .n)), rw (c .gone .ensures) (s .pre .1 .none (s .args .n)))
+loop-holds c = let s = c .before .before .before in (omega (arith, s .pre .1 .behind .within (s .args .n)), rw (c .gone .ensures) (s .pre .1 .behind .none (s .args .n)))
 
-cast-order : tie.Need-cast-order Inv-loop μ-loop
-cast-order c = search needs
+cast-in-line : tie.Need-cast-in-line Inv-loop μ-loop
+cast-in-line c = search needs
 
-order-requires : tie.Need-order-requires Inv-loop μ-loop
-order-requires c κs = let s = c .before .before .before .before .before in (s .pre .0 .shaped .whole, omega (arith, s .pre .0 .takens (s .args .n), s .pre .0 .shaped .fits))
+in-line-requires : tie.Need-in-line-requires Inv-loop μ-loop
+in-line-requires c κs = let s = c .before .before .before .before .before in (s .pre .0 .shaped .whole, omega (arith, s .pre .1 .met (s .args .n), s .pre .1 .few))
 
 cast-standing : tie.Need-cast-standing Inv-loop μ-loop
 cast-standing c = search needs
 
 standing-requires : tie.Need-standing-requires Inv-loop μ-loop
-standing-requires c κs = let s = c .before .before .before .before .before .before in (s .pre .0 .shaped .whole, s .pre .2, rw (c .order .ensures) (s .pre .0 .small (c .before .before .loop .q) (omega (arith, s .pre .0 .takens (s .args .n), c .before .before .before .before .taken .ensures, c .before .loop-test .taken))))
+standing-requires c κs = let s = c .before .before .before .before .before .before in (s .pre .0 .shaped .whole, s .pre .2, rw (c .in-line .ensures) (s .pre .1 .small (c .before .before .loop .q) (omega (arith, s .pre .1 .met (s .args .n), c .before .before .before .before .met .ensures, c .before .loop-test .taken))))
 
 returns : tie.Need-returns Inv-loop μ-loop
-returns c = (rw (c .before .before .before .before .before .before .taken .ensures) at (c .before .before .before .before .loop .inv .0), c .before .before .before .before .loop .inv .1)
+returns c = (rw (c .before .before .before .before .before .before .met .ensures) at (c .before .before .before .before .loop .inv .0), c .before .before .before .before .loop .inv .1)
 
 add-q : tie.Need-add-q Inv-loop μ-loop
 add-q c = search needs
@@ -54,11 +54,11 @@ loop-less c = search needs
 loop-again : tie.Need-loop-again Inv-loop μ-loop
 loop-again c = let s = c .before .before .before .before .before .before .before .before in (
   omega arith,
-  gone-on (bytes (s .args .m) (s .args .b .now) ORDER) (bytes (s .args .m) (s .args .b .now) STANDING) (s .args .n) (c .before .before .before .before .loop .q) (c .before .before .before .before .loop .inv .1) (not-standing (bytes (s .args .m) (s .args .b .now) STANDING) (s .args .n) (c .before .before .order .ensures) (c .before .standing .ensures) (c .if1 .left)),
+  gone-on (bytes (s .args .m) (s .args .b .now) LINE) (bytes (s .args .m) (s .args .b .now) STANDING) (s .args .n) (c .before .before .before .before .loop .q) (c .before .before .before .before .loop .inv .1) (not-standing (bytes (s .args .m) (s .args .b .now) STANDING) (s .args .n) (c .before .before .in-line .ensures) (c .before .standing .ensures) (c .if1 .left)),
 )
 
 returns-2 : tie.Need-returns-2 Inv-loop μ-loop
-returns-2 c = (rw (c .before .before .before .taken .ensures) at (c .before .loop .inv .0), c .before .loop .inv .1)
+returns-2 c = (rw (c .before .before .before .met .ensures) at (c .before .loop .inv .0), c .before .loop .inv .1)
 
 pub behind-spec : {M : Type 1} → statement M
 behind-spec =
@@ -66,11 +66,11 @@ behind-spec =
     (tie.spec
     Inv-loop
     μ-loop
-    taken-requires
+    met-requires
     gone-requires
     loop-holds
-    cast-order
-    order-requires
+    cast-in-line
+    in-line-requires
     cast-standing
     standing-requires
     returns

@@ -1,10 +1,13 @@
--- A refusal for each test, and the effect for each verdict.
-use borrow.Author.Tests.{le-ltb, not-true}
+-- A refusal for each test, a former place, or the last one.
+use mathlib.Core.Path.{sym, _∙_}
+use mathlib.Core.Logic.{_≢_}
+use borrow.Author.Tests.{le-ltb}
+use Rattle.state.specs.Parts.{bytes, word, PLACE, TAKEN}
 use Rattle.state.specs.Lent.{own}
 use Rattle.state.proofs.Steps.{refused}
 use Rattle.state.proofs.Lent.{keeps-same, own-keeps}
 use Rattle.nodes.proofs.Lent.{taking-moves}
-use Rattle.nodes.proofs.Joins.{node8, take-9, place32, more, save32, moves-none, moves-invalid, moves-valid, holds-moved, holds-valid, holds-invalid, whole-standing, more-standing, entered-stored, whole-entered, failed-stored}
+use Rattle.nodes.proofs.Joins.{node8, take-9, place-in-order, save32, moves-former, holds-former}
 use borrow.Author.Needs.{needs}
 use Rattle.nodes.proofs.take.Statement.{statement}
 use Rattle.nodes.proofs.take.Tie as tie
@@ -39,20 +42,23 @@ cast-order c = search needs
 order-requires : tie.Need-order-requires
 order-requires c κs = let s = c .before .before .before .before .before .before .before .before .before .before .before .before .before in
     let ln = rw (c .before .before .before .before .before .before .before .nodes .ensures) at (c .before .before .before .before .before .before .if1 .left) in
-    let h = rw (c .before .before .placed .ensures) at (c .before .if2 .left) in
-    (s .pre .0 .shaped .whole, place32 (s .pre .0) (s .args .n) ln (c .before .before .before .before .taken .ensures) h)
+    let h = rw (c .before .before .placed .ensures, c .before .before .before .before .taken .ensures) at (c .before .if2 .left) in
+    (s .pre .0 .shaped .whole, rw (c .before .before .before .before .taken .ensures) (place-in-order (s .pre .0) (s .args .n) ln h))
 
-claims-here-requires : tie.Need-claims-here-requires
-claims-here-requires c κs = let s = c .before .before .before .before .before .before .before .before .before .before .before .before .before .before .before in
+cast-place : tie.Need-cast-place
+cast-place c = search needs
+
+place-requires : tie.Need-place-requires
+place-requires c κs = let s = c .before .before .before .before .before .before .before .before .before .before .before .before .before .before .before in
     let ln = rw (c .before .before .before .before .before .before .before .before .before .nodes .ensures) at (c .before .before .before .before .before .before .before .before .if1 .left) in
-    let h = rw (c .before .before .before .before .placed .ensures) at (c .before .before .before .if2 .left) in
-    (s .pre .0, s .pre .1, save32 (s .pre .0) (s .args .n) ln (c .before .before .before .before .before .before .taken .ensures) h (c .before .order .ensures))
+    let h = rw (c .before .before .before .before .placed .ensures, c .before .before .before .before .before .before .taken .ensures) at (c .before .before .before .if2 .left) in
+    (s .pre .0 .shaped .whole, save32 (s .pre .0) (s .args .n) ln h (rw (c .before .before .before .before .before .before .taken .ensures) at (c .before .order .ensures)))
 
-move-on-requires : tie.Need-move-on-requires
-move-on-requires c κs = let s = c .before .before .before .before .before .before .before .before .before .before .before .before .before .before .before .before .before .before in
+pass-requires : tie.Need-pass-requires
+pass-requires c κs = let s = c .before .before .before .before .before .before .before .before .before .before .before .before .before .before .before .before .before .before in
     let ln = rw (c .before .before .before .before .before .before .before .before .before .before .before .before .nodes .ensures) at (c .before .before .before .before .before .before .before .before .before .before .before .if1 .left) in
-    let h = rw (c .before .before .before .before .before .before .before .placed .ensures) at (c .before .before .before .before .before .before .if2 .left) in
-    (s .pre .0 .shaped .whole, node8 (s .pre .0) (s .args .n) ln, more (s .pre .0) (s .args .n) ln (c .before .before .before .before .before .before .before .before .before .taken .ensures) h)
+    let h = rw (c .before .before .before .before .before .before .before .placed .ensures, c .before .before .before .before .before .before .before .before .before .taken .ensures) at (c .before .before .before .before .before .before .if2 .left) in
+    (s .pre .0 .shaped .whole, node8 (s .pre .0) (s .args .n) ln, place-in-order (s .pre .0) (s .args .n) ln h)
 
 same-length-3 : tie.Need-same-length-3
 same-length-3 c = search needs
@@ -60,74 +66,33 @@ same-length-3 c = search needs
 returns-3 : tie.Need-returns-3
 returns-3 c = let s = c .before .before .before .before .before .before .before .before .before .before .before .before .before .before .before .before .before .before .before .before .before in
     let ln = rw (c .before .before .before .before .before .before .before .before .before .before .before .before .before .before .before .nodes .ensures) at (c .before .before .before .before .before .before .before .before .before .before .before .before .before .before .if1 .left) in
-    let h = rw (c .before .before .before .before .before .before .before .before .before .before .placed .ensures) at (c .before .before .before .before .before .before .before .before .before .if2 .left) in (
-      taking-moves (s .args .b .now) _ (c .before .before .move-on .ensures) (s .args .seen .now) (s .args .w .now) (moves-none (s .pre .0) (s .args .n) ln (c .before .before .before .before .before .before .before .before .before .before .before .before .taken .ensures) h (c .before .before .before .before .before .before .before .order .ensures) (c .before .before .before .before .before .claims-here .ensures) (not-true _ (c .before .before .before .before .if3 .taken)) (s .args .seen .now) (s .args .w .now)),
-      own-keeps (s .args .b .now) _ (c .before .before .move-on .ensures) (holds-moved (s .pre .0) (s .args .n) ln (c .before .before .before .before .before .before .before .before .before .before .before .before .taken .ensures) h),
+    let h = rw (c .before .before .before .before .before .before .before .before .before .before .placed .ensures, c .before .before .before .before .before .before .before .before .before .before .before .before .taken .ensures) at (c .before .before .before .before .before .before .before .before .before .if2 .left) in
+    let et = rw (c .before .before .before .before .before .before .before .before .before .before .before .before .taken .ensures) at (c .before .before .before .before .before .before .before .order .ensures) in
+    let d : word (bytes (s .args .m) (s .args .b .now) PLACE) (c .before .before .before .before .before .before .before .order .result) ≢ word (bytes (s .args .m) (s .args .b .now) TAKEN) (s .args .n) = λ e. c .before .before .before .before .if3 .taken (c .before .before .before .before .before .place .ensures ∙ e ∙ sym (c .before .before .before .before .before .before .before .before .before .before .before .before .taken .ensures)) in (
+      taking-moves (s .args .b .now) _ (c .before .before .pass .ensures) (s .args .seen .now) (s .args .w .now) (moves-former (s .pre .0) (s .args .n) ln h et d (s .args .seen .now) (s .args .w .now)),
+      own-keeps (s .args .b .now) _ (c .before .before .pass .ensures) (holds-former (s .pre .0) (s .args .n) ln h et d),
     )
 
-finding-requires : tie.Need-finding-requires
-finding-requires c κs = let s = c .before .before .before .before .before .before .before .before .before .before .before .before .before .before .before .before .before .before in
-    let ln = rw (c .before .before .before .before .before .before .before .before .before .before .before .before .nodes .ensures) at (c .before .before .before .before .before .before .before .before .before .before .before .if1 .left) in
-    let h = rw (c .before .before .before .before .before .before .before .placed .ensures) at (c .before .before .before .before .before .before .if2 .left) in
-    (s .pre .0, s .pre .1, s .pre .2, s .pre .3, save32 (s .pre .0) (s .args .n) ln (c .before .before .before .before .before .before .before .before .before .taken .ensures) h (c .before .before .before .before .order .ensures))
-
-cast-ti : tie.Need-cast-ti
-cast-ti c = search needs
-
-set-standing-requires : tie.Need-set-standing-requires
-set-standing-requires c κs = let s = c .before .before .before .before .before .before .before .before .before .before .before .before .before .before .before .before .before .before .before .before in
-    let ln = rw (c .before .before .before .before .before .before .before .before .before .before .before .before .before .before .nodes .ensures) at (c .before .before .before .before .before .before .before .before .before .before .before .before .before .if1 .left) in
-    let h = rw (c .before .before .before .before .before .before .before .before .before .placed .ensures) at (c .before .before .before .before .before .before .before .before .if2 .left) in
-    (s .pre .0 .shaped .whole, node8 (s .pre .0) (s .args .n) ln, save32 (s .pre .0) (s .args .n) ln (c .before .before .before .before .before .before .before .before .before .before .before .taken .ensures) h (c .before .before .before .before .before .before .order .ensures))
-
-move-on-requires-2 : tie.Need-move-on-requires-2
-move-on-requires-2 c κs = let s = c .before .before .before .before .before .before .before .before .before .before .before .before .before .before .before .before .before .before .before .before .before .before .before .before in
-    let ln = rw (c .before .before .before .before .before .before .before .before .before .before .before .before .before .before .before .before .before .before .nodes .ensures) at (c .before .before .before .before .before .before .before .before .before .before .before .before .before .before .before .before .before .if1 .left) in
-    let h = rw (c .before .before .before .before .before .before .before .before .before .before .before .before .before .placed .ensures) at (c .before .before .before .before .before .before .before .before .before .before .before .before .if2 .left) in
-    let e = c .before .before .before .set-standing .ensures in
-    (whole-standing (s .pre .0) (s .args .n) ln (c .before .before .before .before .before .before .before .before .before .before .before .before .before .before .before .taken .ensures) h _ _ e, node8 (s .pre .0) (s .args .n) ln, more-standing (s .pre .0) (s .args .n) ln (c .before .before .before .before .before .before .before .before .before .before .before .before .before .before .before .taken .ensures) h _ _ e)
-
-enum-told : tie.Need-enum-told
-enum-told c = search needs
-
-enum-known-v : tie.Need-enum-known-v
-enum-known-v c = search needs
-
-fail-requires : tie.Need-fail-requires
-fail-requires c κs =
-    let q = c .before .before .before .before .before .before .before .before .before .before .before .before .before in
-    let s = q .before .before .before .before .before .before .before .before .before .before .before .before .before .before .before .before .before .before in
-    let ln = rw (q .before .before .before .before .before .before .before .before .before .before .before .before .nodes .ensures) at (q .before .before .before .before .before .before .before .before .before .before .before .if1 .left) in
-    let h = rw (q .before .before .before .before .before .before .before .placed .ensures) at (q .before .before .before .before .before .before .if2 .left) in
-    (whole-entered (s .pre .0) (s .args .n) ln (q .before .before .before .before .before .before .before .before .before .taken .ensures) h _ _ (c .before .before .before .before .before .before .before .before .before .before .set-standing .ensures) (c .before .before .before .before .before .before .move-on2 .ensures), save32 (s .pre .0) (s .args .n) ln (q .before .before .before .before .before .before .before .before .before .taken .ensures) h (q .before .before .before .before .order .ensures))
+take-last-requires : tie.Need-take-last-requires
+take-last-requires c κs = let s = c .before .before .before .before .before .before .before .before .before .before .before .before .before .before .before .before .before .before in
+    let ln = rw (c .before .before .before .before .before .before .before .before .before .before .before .before .nodes .ensures) at (c .before .before .before .before .before .before .before .before .before .before .before .if1 .left) in (
+      s .pre .0,
+      s .pre .1,
+      s .pre .2,
+      s .pre .3,
+      record {
+        node = ln;
+        left = rw (c .before .before .before .before .before .before .before .placed .ensures, c .before .before .before .before .before .before .before .before .before .taken .ensures) at (c .before .before .before .before .before .before .if2 .left);
+        save = rw (c .before .before .before .before .before .before .before .before .before .taken .ensures) at (c .before .before .before .before .order .ensures);
+        last = sym (c .before .before .place .ensures) ∙ c .before .if3 .left ∙ c .before .before .before .before .before .before .before .before .before .taken .ensures;
+      },
+    )
 
 same-length-4 : tie.Need-same-length-4
 same-length-4 c = search needs
 
 returns-4 : tie.Need-returns-4
-returns-4 c =
-    let q = c .before .before .before .before .before .before .before .before .before .before .before in
-    let s = q .before .before .before .before .before .before .before .before .before .before .before .before .before .before .before .before .before .before in
-    let ln = rw (q .before .before .before .before .before .before .before .before .before .before .before .before .nodes .ensures) at (q .before .before .before .before .before .before .before .before .before .before .before .if1 .left) in
-    let h = rw (q .before .before .before .before .before .before .before .placed .ensures) at (q .before .before .before .before .before .before .if2 .left) in
-    let e = entered-stored (s .pre .0) (s .args .n) ln (q .before .before .before .before .before .before .before .before .before .taken .ensures) h (q .before .before .before .before .order .ensures) (c .before .before .before .before .before .before .before .before .set-standing .ensures) (c .before .before .before .before .move-on2 .ensures) in (
-      taking-moves (s .args .b .now) _ e (s .args .seen .now) (s .args .w .now) (λ value. moves-valid (s .pre .0) (s .args .n) ln (q .before .before .before .before .before .before .before .before .before .taken .ensures) h (q .before .before .before .before .order .ensures) (s .args .seen .now) (s .args .w .now) (c .before .before .before .before .before .before .before .before .before .before .finding .ensures) value (c .enum-told .given .1)),
-      own-keeps (s .args .b .now) _ e (holds-valid (s .pre .0) (s .args .n) ln (q .before .before .before .before .before .before .before .before .before .taken .ensures) h (q .before .before .before .before .order .ensures)),
-    )
-
-same-length-5 : tie.Need-same-length-5
-same-length-5 c = search needs
-
-returns-5 : tie.Need-returns-5
-returns-5 c =
-    let q = c .before .before .before .before .before .before .before .before .before .before .before .before .before .before .before .before in
-    let s = q .before .before .before .before .before .before .before .before .before .before .before .before .before .before .before .before .before .before in
-    let ln = rw (q .before .before .before .before .before .before .before .before .before .before .before .before .nodes .ensures) at (q .before .before .before .before .before .before .before .before .before .before .before .if1 .left) in
-    let h = rw (q .before .before .before .before .before .before .before .placed .ensures) at (q .before .before .before .before .before .before .if2 .left) in
-    let e = failed-stored (s .pre .0) (s .args .n) ln (q .before .before .before .before .before .before .before .before .before .taken .ensures) h (q .before .before .before .before .order .ensures) (c .before .before .before .before .before .before .before .before .before .before .before .before .before .set-standing .ensures) (c .before .before .before .before .before .before .before .before .before .move-on2 .ensures) (c .before .before .fail .ensures) in (
-      taking-moves (s .args .b .now) _ e (s .args .seen .now) (s .args .w .now) (λ value. moves-invalid (s .pre .0) (s .args .n) ln (q .before .before .before .before .before .before .before .before .before .taken .ensures) h (q .before .before .before .before .order .ensures) (s .args .seen .now) (s .args .w .now) (c .before .before .before .before .before .before .before .before .before .before .before .before .before .before .before .finding .ensures) value _ (c .before .before .before .before .before .v .given .1)),
-      own-keeps (s .args .b .now) _ e (holds-invalid (s .pre .0) (s .args .n) ln (q .before .before .before .before .before .before .before .before .before .taken .ensures) h (q .before .before .before .before .order .ensures)),
-    )
+returns-4 c = search needs
 
 pub take-spec : {M : Type 1} → statement M
 take-spec =
@@ -142,18 +107,11 @@ take-spec =
     returns-2
     cast-order
     order-requires
-    claims-here-requires
-    move-on-requires
+    cast-place
+    place-requires
+    pass-requires
     same-length-3
     returns-3
-    finding-requires
-    cast-ti
-    set-standing-requires
-    move-on-requires-2
-    enum-told
-    enum-known-v
-    fail-requires
+    take-last-requires
     same-length-4
-    returns-4
-    same-length-5
-    returns-5)
+    returns-4)

@@ -12,7 +12,7 @@ claim-requires c κs = search needs
 returns : tie.Need-returns
 returns c =
     let s = c .before .before .before in
-    sym (queue-granted (s .pre .0) (s .pre .2) (s .args .t) (c .before .claim .ensures) refl refl ∙ rw (eq-eqb _ _ (c .if1 .taken)))
+    sym (queue-granted (s .pre .0) (s .pre .1) (s .pre .2) (s .args .t) (c .before .claim .ensures) refl refl ∙ rw (eq-eqb _ _ (c .if1 .taken)))
 
 least-requires : tie.Need-least-requires
 least-requires c κs = search needs
@@ -24,14 +24,14 @@ returns-2 : tie.Need-returns-2
 returns-2 c =
     let p = c .before .before .before .before in
     let s = p .before .before in
-    sym (queue-granted (s .pre .0) (s .pre .2) (s .args .t) (p .claim .ensures) (c .before .before .least .ensures) (c .before .first .ensures)
+    sym (queue-granted (s .pre .0) (s .pre .1) (s .pre .2) (s .args .t) (p .claim .ensures) (c .before .before .least .ensures) (c .before .first .ensures)
     ∙ rw (ne-eqb _ _ (c .before .before .before .if1 .left), eq-eqb _ _ (c .if2 .taken)))
 
 returns-3 : tie.Need-returns-3
 returns-3 c =
     let p = c .before .before .before .before in
     let s = p .before .before in
-    sym (queue-granted (s .pre .0) (s .pre .2) (s .args .t) (p .claim .ensures) (c .before .before .least .ensures) (c .before .first .ensures)
+    sym (queue-granted (s .pre .0) (s .pre .1) (s .pre .2) (s .args .t) (p .claim .ensures) (c .before .before .least .ensures) (c .before .first .ensures)
     ∙ rw (ne-eqb _ _ (c .before .before .before .if1 .left), ne-eqb _ _ (c .if2 .left)))
 
 pub granted-at-spec : {M : Type 1} → statement M

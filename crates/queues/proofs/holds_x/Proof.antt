@@ -9,7 +9,7 @@ first-requires : tie.Need-first-requires
 first-requires c κs = search needs
 
 returns : tie.Need-returns
-returns c = let s = c .before .before in sym (queue-holds-x (s .pre .0) (s .pre .2) (c .first .ensures))
+returns c = let s = c .before .before in sym (queue-holds-x (s .pre .0) (s .pre .1) (s .pre .2) (c .first .ensures))
 
 pub holds-x-spec : {M : Type 1} → statement M
 holds-x-spec = tie.close (tie.spec first-requires returns)

@@ -1,10 +1,10 @@
--- Row by row, from the first place on.
+-- Row by row, from the first in line on.
 use Prim.Native.Nat.{_-_, _≤_, _<_}
 use mathlib.Core.Path.{_≡_, refl}
 use mathlib.Core.List.{map}
 use native.Mathlib.Omega.{arith}
 use lib.ListN.{length, take}
-use Rattle.state.specs.Parts.{bytes, ORDER}
+use Rattle.state.specs.Parts.{bytes, LINE}
 use Rattle.rows.specs.Rows.{row-of, rows-of}
 use Rattle.rows.proofs.Laws.{row-more}
 use borrow.Author.Needs.{needs}
@@ -20,8 +20,8 @@ abbrev μ-loop : tie.MeasureT-loop
 loop-holds : tie.Need-loop-holds Inv-loop μ-loop
 loop-holds c = (search needs, search needs, refl)
 
-order-requires : tie.Need-order-requires Inv-loop μ-loop
-order-requires c κs = search needs
+in-line-requires : tie.Need-in-line-requires Inv-loop μ-loop
+in-line-requires c κs = search needs
 
 cast-k : tie.Need-cast-k Inv-loop μ-loop
 cast-k c = search needs
@@ -29,12 +29,12 @@ cast-k c = search needs
 runs-requires : tie.Need-runs-requires Inv-loop μ-loop
 runs-requires c κs =
     let o = c .before .before .before .before in
-    (o .pre .0, rw (c .order .ensures) (o .pre .2 (c .before .before .loop .i) (c .before .loop-test .taken)))
+    (o .pre .0, rw (c .in-line .ensures) (o .pre .2 (c .before .before .loop .i) (c .before .loop-test .taken)))
 
 phase-requires : tie.Need-phase-requires Inv-loop μ-loop
 phase-requires c κs =
     let o = c .before .before .before .before .before in
-    (o .pre .0, rw (c .before .order .ensures) (o .pre .2 (c .before .before .before .loop .i) (c .before .before .loop-test .taken)))
+    (o .pre .0, rw (c .before .in-line .ensures) (o .pre .2 (c .before .before .before .loop .i) (c .before .before .loop-test .taken)))
 
 letter-requires : tie.Need-letter-requires Inv-loop μ-loop
 letter-requires c κs = search needs
@@ -56,10 +56,10 @@ loop-again c =
     let l = c .before .before .before .before .before .loop in
     let o = c .before .before .before .before .before .before .before in
     let d = bytes (o .args .m) (o .args .b .now) in
-    let places : l .i < length (d ORDER) = omega (arith, o .pre .0 .all ORDER) in (
+    let inside : l .i < length (d LINE) = omega (arith, o .pre .0 .all LINE) in (
       search needs,
       search needs,
-      row-more d (l .rows) (l .i) _ _ _ _ (omega arith) places (c .before .before .before .order .ensures) (c .before .before .runs .ensures) (c .before .phase .ensures) (c .letter .ensures) (l .inv .2),
+      row-more d (l .rows) (l .i) _ _ _ _ (omega arith) inside (c .before .before .before .in-line .ensures) (c .before .before .runs .ensures) (c .before .phase .ensures) (c .letter .ensures) (l .inv .2),
     )
 
 returns : tie.Need-returns Inv-loop μ-loop
@@ -75,7 +75,7 @@ rows-of-spec =
     Inv-loop
     μ-loop
     loop-holds
-    order-requires
+    in-line-requires
     cast-k
     runs-requires
     phase-requires

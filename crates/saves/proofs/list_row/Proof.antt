@@ -3,7 +3,7 @@ use Prim.Native.Nat.{_+_, _-_, _≤_, _<_}
 use mathlib.Core.Path.{_≡_, refl}
 use native.Mathlib.Omega.{arith}
 use lib.ListN.{length, getD, length-set}
-use Rattle.state.specs.Parts.{byte-sizes, bytes, hint-sizes, hints, MARK, LISTED}
+use Rattle.state.specs.Parts.{byte-sizes, bytes, hint-sizes, hints, CLAIM, LISTED}
 use Rattle.state.proofs.Cells.{cell-in}
 use Rattle.state.proofs.Parts.{put-same, row-get, row-within}
 use Rattle.saves.proofs.Listing.{one-small, listing-none}
@@ -18,8 +18,8 @@ Inv-loop b listed₀ m t from to c₀ k₀ listed c k = (c ≤ k) × (k ≤ m) �
 abbrev μ-loop : tie.MeasureT-loop
 μ-loop b listed₀ m t from to c₀ k₀ listed c k = m - k
 
-marks-requires : tie.Need-marks-requires Inv-loop μ-loop
-marks-requires c κs = search needs
+claims-requires : tie.Need-claims-requires Inv-loop μ-loop
+claims-requires c κs = search needs
 
 lists-requires : tie.Need-lists-requires Inv-loop μ-loop
 lists-requires c κs = search needs
@@ -29,10 +29,10 @@ loop-holds c = let s = c .before .before .before .before in
     (omega arith, omega arith, refl, record { others = put-same (hints (s .args .m) (s .args .listed .now)) LISTED; rows = listing-none (s .args .m) _ _ _ (s .pre .1 .all LISTED) })
 
 add-x : tie.Need-add-x Inv-loop μ-loop
-add-x c = let s = c .before .before .before .before .before .before in omega (arith, row-within (byte-sizes (s .args .m)) (s .args .b .now) MARK (s .args .m) (s .args .t) (c .before .loop .k) (c .before .before .before .marks .ensures) (cell-in (s .args .m) (s .pre .3) (c .loop-test .taken)) (s .pre .0))
+add-x c = let s = c .before .before .before .before .before .before in omega (arith, row-within (byte-sizes (s .args .m)) (s .args .b .now) CLAIM (s .args .m) (s .args .t) (c .before .loop .k) (c .before .before .before .claims .ensures) (cell-in (s .args .m) (s .pre .3) (c .loop-test .taken)) (s .pre .0))
 
 shared-slice-read-x : tie.Need-shared-slice-read-x Inv-loop μ-loop
-shared-slice-read-x c = let s = c .before .before .before .before .before .before .before in row-within (byte-sizes (s .args .m)) (s .args .b .now) MARK (s .args .m) (s .args .t) (c .before .before .loop .k) (c .before .before .before .before .marks .ensures) (cell-in (s .args .m) (s .pre .3) (c .before .loop-test .taken)) (s .pre .0)
+shared-slice-read-x c = let s = c .before .before .before .before .before .before .before in row-within (byte-sizes (s .args .m)) (s .args .b .now) CLAIM (s .args .m) (s .args .t) (c .before .before .loop .k) (c .before .before .before .before .claims .ensures) (cell-in (s .args .m) (s .pre .3) (c .before .loop-test .taken)) (s .pre .0)
 
 cast-listed : tie.Need-cast-listed Inv-loop μ-loop
 cast-listed c = search needs
@@ -53,7 +53,7 @@ one-requires : tie.Need-one-requires Inv-loop μ-loop
 one-requires c κs = search needs
 
 add-c : tie.Need-add-c Inv-loop μ-loop
-add-c c = let s = c .before .before .before .before .before .before .before .before in let l = c .before .before .before .loop in omega (arith, c .one .ensures, one-small (getD (s .args .b .now) (c .before .before .before .before .before .marks .result + l .k) 0))
+add-c c = let s = c .before .before .before .before .before .before .before .before in let l = c .before .before .before .loop in omega (arith, c .one .ensures, one-small (getD (s .args .b .now) (c .before .before .before .before .before .claims .result + l .k) 0))
 
 add-k : tie.Need-add-k Inv-loop μ-loop
 add-k c = search needs
@@ -63,8 +63,8 @@ loop-less c = search needs
 
 loop-again : tie.Need-loop-again Inv-loop μ-loop
 loop-again c = let s = c .before .before .before .before .before .before .before .before in let l = c .before .before .before .loop in
-    let o = one-small (getD (s .args .b .now) (c .before .before .before .before .before .marks .result + l .k) 0) in
-    rw (c .one .ensures) (omega arith, omega arith, rw length-set (l .inv .2), listed-on (l .listed) (l .inv .3) (s .pre .3) (c .before .before .loop-test .taken) (l .inv .0) (c .before .before .before .before .lists .ensures) (row-get (byte-sizes (s .args .m)) (s .args .b .now) MARK (s .args .m) (s .args .t) (l .k) (c .before .before .before .before .before .marks .ensures) (cell-in (s .args .m) (s .pre .3) (c .before .before .loop-test .taken))))
+    let o = one-small (getD (s .args .b .now) (c .before .before .before .before .before .claims .result + l .k) 0) in
+    rw (c .one .ensures) (omega arith, omega arith, rw length-set (l .inv .2), listed-on (l .listed) (l .inv .3) (s .pre .3) (c .before .before .loop-test .taken) (l .inv .0) (c .before .before .before .before .lists .ensures) (row-get (byte-sizes (s .args .m)) (s .args .b .now) CLAIM (s .args .m) (s .args .t) (l .k) (c .before .before .before .before .before .claims .ensures) (cell-in (s .args .m) (s .pre .3) (c .before .before .loop-test .taken))))
 
 cast-set-many : tie.Need-cast-set-many Inv-loop μ-loop
 cast-set-many c = search needs
@@ -84,7 +84,7 @@ list-row-spec =
     (tie.spec
     Inv-loop
     μ-loop
-    marks-requires
+    claims-requires
     lists-requires
     loop-holds
     add-x

@@ -14,14 +14,14 @@ state-lines-requires c κs = search needs
 
 stop-line-requires : tie.Need-stop-line-requires
 stop-line-requires c κs = let s = c .before .before .before .before .before .before .before .before .before .before in
-    (omega (arith, c .before .before .before .before .before .before .if1 .left, s .pre .2, wrote-end (c .before .before .before .state-lines .ensures), wrote-length (c .before .before .before .state-lines .ensures)), s .pre .3)
+    (omega (arith, c .before .before .before .before .before .before .if1 .left, s .pre .4, wrote-end (c .before .before .before .state-lines .ensures), wrote-length (c .before .before .before .state-lines .ensures)), s .pre .5)
 
 same-length : tie.Need-same-length
 same-length c = search needs
 
 returns-2 : tie.Need-returns-2
 returns-2 c = let s = c .before .before .before .before .before .before .before .before .before .before .before .before .before in
-    (written _ _ _ (s .args .r) (c .before .before .before .before .before .before .before .before .before .if1 .left) (s .pre .2) (c .before .before .before .before .before .before .state-lines .ensures) (c .before .before .stop-line .ensures), inside _ _ _ (s .args .r) (c .before .before .before .before .before .before .before .before .before .if1 .left) (s .pre .2) (c .before .before .before .before .before .before .state-lines .ensures) (c .before .before .stop-line .ensures))
+    (written _ _ _ (s .args .r) (c .before .before .before .before .before .before .before .before .before .if1 .left) (s .pre .4) (c .before .before .before .before .before .before .state-lines .ensures) (c .before .before .stop-line .ensures), inside _ _ _ (s .args .r) (c .before .before .before .before .before .before .before .before .before .if1 .left) (s .pre .4) (c .before .before .before .before .before .before .state-lines .ensures) (c .before .before .stop-line .ensures))
 
 pub report-lines-spec : {M : Type 1} → statement M
 report-lines-spec =

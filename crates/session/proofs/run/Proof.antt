@@ -75,7 +75,7 @@ report-lines-requires : tie.Need-report-lines-requires
 report-lines-requires c κs = let s = c .before .before .before .before .before .before .before .before .before .before .before .before .before .before .before .before .before .before .before .before .before .before .before .before in
     let o = opening (s .args .session .now) (s .args .nodes) (s .args .sheets) (s .pre) in
     let v = c .before .before .before .before .before .before .before .before .walk .ensures in
-    (v .ready, v .fit .sheets, omega (arith, few-sheets o), stop-near (o .opened-well) v)
+    (v .ready, v .fit .hints .trimmed, v .fit .hints .lined, v .fit .sheets, omega (arith, few-sheets o), stop-near (o .opened-well) v)
 
 told-requires : tie.Need-told-requires
 told-requires c κs = search needs

@@ -46,13 +46,13 @@ fails-at-requires c κs =
     let p = c .before .before in
     let l = p .before .before .loop .inv in
     let s = c .before .before .before .before .before .before .before .before .before .before .pre in
-    (l .ready, l .hints .behind, s .2, s .3, passed-sheet l (p .before .before .before .many .ensures) (p .before .loop-test .taken) (p .sheet-at .ensures), l .save)
+    (l .ready, l .hints .trimmed, s .2, s .3, passed-sheet l (p .before .before .before .many .ensures) (p .before .loop-test .taken) (p .sheet-at .ensures), l .save)
 
 rule-at-requires : tie.Need-rule-at-requires Inv-loop μ-loop
 rule-at-requires c κs =
     let p = c .before .before .before .before in
     let l = p .before .before .loop .inv in
-    (l .ready, l .hints .behind, passed-sheet l (p .before .before .before .many .ensures) (p .before .loop-test .taken) (p .sheet-at .ensures))
+    (l .ready, l .hints .trimmed, passed-sheet l (p .before .before .before .many .ensures) (p .before .loop-test .taken) (p .sheet-at .ensures))
 
 returns : tie.Need-returns Inv-loop μ-loop
 returns c =

@@ -14,10 +14,10 @@ claims-here-requires c κs = search needs
 returns : tie.Need-returns
 returns c =
     let s = c .before .before .before .before .before in
-    c .claims-here .ensures ∙ sym (entry-some (s .pre .0) (s .args .n) (s .args .t) (c .before .before .stands .ensures) (c .before .if1 .taken))
+    c .claims-here .ensures ∙ sym (entry-some (s .pre .0) (s .pre .1 .lined) (s .args .n) (s .args .t) (c .before .before .stands .ensures) (c .before .if1 .taken))
 
 returns-2 : tie.Need-returns-2
-returns-2 c = let s = c .before .before .before .before in sym (entry-none (s .pre .0) (s .args .n) (s .args .t) (c .before .stands .ensures) (c .if1 .left))
+returns-2 c = let s = c .before .before .before .before in sym (entry-none (s .pre .0) (s .pre .1 .lined) (s .args .n) (s .args .t) (c .before .stands .ensures) (c .if1 .left))
 
 pub has-entry-spec : {M : Type 1} → statement M
 has-entry-spec = tie.close (tie.spec stands-requires claims-here-requires returns returns-2)

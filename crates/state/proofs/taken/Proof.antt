@@ -1,18 +1,23 @@
--- The region's byte.
+-- The region's two bytes.
+use native.Mathlib.Omega.{arith}
 use Rattle.state.specs.Parts.{byte-sizes, TAKEN}
-use Rattle.state.proofs.Parts.{parts-get, within}
+use Rattle.state.proofs.Words.{word-read, word-within}
+use mathlib.Core.Path.{_∙_}
 use borrow.Author.Needs.{needs}
 use Rattle.state.proofs.taken.Statement.{statement}
 use Rattle.state.proofs.taken.Tie as tie
 
-add-result : tie.Need-add-result
-add-result c = search needs
+mul-word-at : tie.Need-mul-word-at
+mul-word-at c = search needs
 
-shared-slice-read-result : tie.Need-shared-slice-read-result
-shared-slice-read-result c = let s = c .before in within (byte-sizes (s .args .m)) (s .args .b .now) (s .pre .0) TAKEN (s .args .n) (s .pre .1)
+add-word-at : tie.Need-add-word-at
+add-word-at c = search needs
+
+word-at-requires : tie.Need-word-at-requires
+word-at-requires c κs = let s = c .before in let l = s .pre .1 in word-within (byte-sizes (s .args .m)) (s .args .b .now) TAKEN (s .args .n) (omega arith) (s .pre .0)
 
 returns : tie.Need-returns
-returns c = let s = c .before in parts-get (byte-sizes (s .args .m)) (s .args .b .now) TAKEN (s .args .n) (s .pre .1)
+returns c = let s = c .before .before in let l = s .pre .1 in c .word-at .ensures ∙ word-read (byte-sizes (s .args .m)) (s .args .b .now) TAKEN (s .args .n) (omega arith)
 
 pub taken-spec : {M : Type 1} → statement M
-taken-spec = tie.close (tie.spec add-result shared-slice-read-result returns)
+taken-spec = tie.close (tie.spec mul-word-at add-word-at word-at-requires returns)

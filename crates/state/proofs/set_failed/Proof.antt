@@ -2,8 +2,8 @@
 use Rattle.state.specs.Parts.{byte-sizes, FAILED}
 use Rattle.state.proofs.Parts.{parts-set, within}
 use borrow.Author.Needs.{needs}
-use Rattle.state.proofs.fail.Statement.{statement}
-use Rattle.state.proofs.fail.Tie as tie
+use Rattle.state.proofs.set_failed.Statement.{statement}
+use Rattle.state.proofs.set_failed.Tie as tie
 
 add-b : tie.Need-add-b
 add-b c = search needs
@@ -15,7 +15,7 @@ same-length : tie.Need-same-length
 same-length c = search needs
 
 returns : tie.Need-returns
-returns c = parts-set (byte-sizes (c .args .m)) (c .args .b .now) FAILED (c .args .t) (c .pre .1) 1
+returns c = parts-set (byte-sizes (c .args .m)) (c .args .b .now) FAILED (c .args .t) (c .pre .1) (c .args .f)
 
-pub fail-spec : {M : Type 1} → statement M
-fail-spec = tie.close (tie.spec add-b slice-write-b same-length returns)
+pub set-failed-spec : {M : Type 1} → statement M
+set-failed-spec = tie.close (tie.spec add-b slice-write-b same-length returns)
