@@ -1,14 +1,19 @@
 /* A plain implementation of document 01, with the requests of document 02, in C: arrays, no allocation, written for speed.
  *
- * Sets of sheets are 64-bit masks. Every node takes the saves in the one order, so the entries of
- * a queue always stand in that order: a queue is a mask of places, with a second mask that says
- * which of them are X. "An X before it" is then one AND.
+ * Sets of sheets are 64-bit masks. A queue has at most one entry of a save, at the save's last place: it is a
+ * mask of saves, with a second mask that says which of them are X. Every node takes the places in the one
+ * order, so the entries of a queue always stand in that order, and each save has a mask of those with an
+ * earlier last place. "An X before it" is then one AND. Former places stand in the order alone: no test goes
+ * over them.
  */
 #include <stddef.h>
 #include <stdint.h>
 #include <string.h>
 
 enum { MOST_NODES = 8, MOST_SHEETS = 64, MOST_SAVES = 32, MOST_BYTES = 16384, LEAST_BUFFER = 4096 };
+
+/* A place takes a SUBMIT of two bytes. */
+enum { MOST_PLACES = MOST_BYTES / 2 };
 
 enum { UNUSED, FIRST_RUN, SECOND_RUN, SUBMITTED, COMMITTED, DROPPED };
 
@@ -22,20 +27,24 @@ struct save {
     uint64_t copied, written; /* sheets with a copy from this run; those of them written */
     uint64_t claim, claim_x;  /* the claim; where it is X */
     uint64_t held;            /* sheets with an entry in the queue */
-    uint8_t phase, failed, place;
+    uint16_t place;           /* the last one */
+    uint8_t phase, failed, runs;
 };
 
 struct state {
-    uint32_t nodes, sheets, submitted;
+    uint32_t nodes, sheets;
+    uint32_t places;            /* of the order, former ones too */
+    uint32_t placed;            /* the saves with a place */
     uint32_t accepted, first_commits, second_commits;
     uint64_t owned[MOST_NODES]; /* the sheets of each node */
-    uint8_t taken[MOST_NODES];  /* how many saves of the order each node has taken */
-    uint8_t order[MOST_SAVES];
+    uint16_t taken[MOST_NODES]; /* how many places of the order each node has taken */
     struct save save[MOST_SAVES];
     uint32_t content[MOST_SHEETS], wct[MOST_SHEETS];
-    uint32_t queue[MOST_SHEETS], queue_x[MOST_SHEETS];
-    /* Not cleared at the start: the masks say which copies there are. */
+    uint32_t queue[MOST_SHEETS], queue_x[MOST_SHEETS]; /* the saves with an entry; with an X */
+    /* Not cleared at the start: the masks say which copies there are, and which saves have a place. */
     uint32_t copy[MOST_SAVES][MOST_SHEETS], seen[MOST_SAVES][MOST_SHEETS];
+    uint32_t before[MOST_SAVES]; /* the saves whose last place is earlier */
+    uint8_t order[MOST_PLACES];
 };
 
 struct end {
@@ -73,7 +82,7 @@ static inline int start(struct state *s, const uint8_t *session, size_t length)
         s->owned[session[2 + k]] |= (uint64_t)1 << k;
     s->nodes = nodes;
     s->sheets = sheets;
-    s->submitted = s->accepted = s->first_commits = s->second_commits = 0;
+    s->places = s->placed = s->accepted = s->first_commits = s->second_commits = 0;
     memset(s->taken, 0, sizeof s->taken);
     for (int t = 0; t < MOST_SAVES; t++)
         s->save[t].phase = UNUSED;
@@ -97,13 +106,59 @@ static inline uint32_t out_of_phase(const struct save *t)
     return t->phase == UNUSED ? 13 : t->phase == COMMITTED || t->phase == DROPPED ? 14 : 5;
 }
 
+/* Is the front entry an X? It is where some X has none before it. */
+static inline int front_is_x(const struct state *s, uint32_t queue, uint32_t x)
+{
+    for (; x; x &= x - 1)
+        if (!(queue & s->before[__builtin_ctz(x)]))
+            return 1;
+    return 0;
+}
+
 /* The rule of the last command's answer, a TAKE that found its save invalid. Nothing has changed since, but for the save's own entry,
    which stands last; so no other TAKE has to look for its rule. */
 static inline uint32_t rule_of(const struct state *s, uint32_t value)
 {
-    uint32_t k = value >> SHEET_AT, place = s->save[value & ((1 << SHEET_AT) - 1)].place;
-    uint32_t before = ((uint32_t)1 << place) - 1, queue = s->queue[k] & before, x = s->queue_x[k] & before;
-    return queue & -queue & x ? X_GRANTED : x ? X_WAITING : COUNTER_BEHIND;
+    uint32_t k = value >> SHEET_AT, before = s->before[value & ((1 << SHEET_AT) - 1)];
+    uint32_t queue = s->queue[k] & before, x = s->queue_x[k] & before;
+    return front_is_x(s, queue, x) ? X_GRANTED : x ? X_WAITING : COUNTER_BEHIND;
+}
+
+/* The save's entries at these sheets go. */
+static inline void remove_entries(struct state *s, uint32_t number_t, uint64_t sheets)
+{
+    uint32_t gone = ~((uint32_t)1 << number_t);
+    for (uint64_t left = sheets; left; left &= left - 1) {
+        uint32_t k = (uint32_t)__builtin_ctzll(left);
+        s->queue[k] &= gone;
+        s->queue_x[k] &= gone;
+    }
+}
+
+/* The save joins the end of the order, with a claim for all its copies. */
+static inline void take_place(struct state *s, uint32_t number_t)
+{
+    struct save *t = &s->save[number_t];
+    t->claim |= t->copied;
+    t->claim_x |= t->written;
+    t->phase = SUBMITTED;
+    t->place = (uint16_t)s->places;
+    s->order[s->places++] = (uint8_t)number_t;
+    s->before[number_t] = s->placed;
+    s->placed |= (uint32_t)1 << number_t;
+}
+
+/* The save's last place is one no more. */
+static inline void withdraw(struct state *s, uint32_t number_t)
+{
+    struct save *t = &s->save[number_t];
+    uint32_t gone = ~((uint32_t)1 << number_t);
+    remove_entries(s, number_t, t->held);
+    t->held = 0;
+    t->failed = 0;
+    s->placed &= gone;
+    for (int other = 0; other < MOST_SAVES; other++)
+        s->before[other] &= gone;
 }
 
 static inline struct end run(struct state *s, const uint8_t *session, size_t length)
@@ -129,6 +184,7 @@ static inline struct end run(struct state *s, const uint8_t *session, size_t len
                 REFUSE(out_of_phase(t));
             t->copied = t->written = t->claim = t->claim_x = t->held = 0;
             t->failed = 0;
+            t->runs = 1;
             t->phase = FIRST_RUN;
             kind = ACCEPTED, value = 0;
             break;
@@ -143,12 +199,8 @@ static inline struct end run(struct state *s, const uint8_t *session, size_t len
                 REFUSE(out_of_phase(t));
             uint64_t bit = (uint64_t)1 << k;
             if (!(t->copied & bit)) {
-                if (t->phase == SECOND_RUN) {
-                    if (!(t->claim & bit))
-                        REFUSE(8);
-                } else if (s->queue[k] & -s->queue[k] & s->queue_x[k]) {
+                if (t->phase == FIRST_RUN && front_is_x(s, s->queue[k], s->queue_x[k]))
                     REFUSE(6);
-                }
                 t->copied |= bit;
                 s->copy[number_t][k] = s->content[k];
                 s->seen[number_t][k] = s->wct[k];
@@ -165,8 +217,6 @@ static inline struct end run(struct state *s, const uint8_t *session, size_t len
             if (t->phase != FIRST_RUN && t->phase != SECOND_RUN)
                 REFUSE(out_of_phase(t));
             uint64_t bit = (uint64_t)1 << k;
-            if (t->phase == SECOND_RUN && !(t->claim_x & bit))
-                REFUSE(8);
             if (!(t->copied & bit))
                 REFUSE(7);
             t->written |= bit;
@@ -181,16 +231,15 @@ static inline struct end run(struct state *s, const uint8_t *session, size_t len
                 REFUSE(4);
             struct save *t = &s->save[at[1]];
             if (t->phase == FIRST_RUN) {
-                t->claim = t->copied;
-                t->claim_x = t->written;
-                t->phase = SUBMITTED;
-                t->place = (uint8_t)s->submitted;
-                s->order[s->submitted++] = at[1];
-            } else if (t->phase == SECOND_RUN) {
+                take_place(s, at[1]);
+            } else if (t->phase != SECOND_RUN) {
+                REFUSE(out_of_phase(t));
+            } else if ((t->copied & ~t->claim) | (t->written & ~t->claim_x)) {
+                withdraw(s, at[1]);
+                take_place(s, at[1]);
+            } else {
                 t->phase = COMMITTED;
                 s->second_commits++;
-            } else {
-                REFUSE(out_of_phase(t));
             }
             kind = ACCEPTED, value = 0;
             break;
@@ -201,24 +250,27 @@ static inline struct end run(struct state *s, const uint8_t *session, size_t len
             if (n >= s->nodes)
                 REFUSE(4);
             uint32_t place = s->taken[n];
-            if (place == s->submitted)
+            if (place == s->places)
                 REFUSE(9);
             s->taken[n]++;
-            uint32_t number_t = s->order[place], here = (uint32_t)1 << place;
+            uint32_t number_t = s->order[place], here = (uint32_t)1 << number_t;
             struct save *t = &s->save[number_t];
-            uint64_t ours = t->claim & s->owned[n], failed = 0;
+            kind = VALID, value = number_t;
+            if (t->place != place) /* a former one */
+                break;
+            uint64_t ours = t->claim & s->owned[n], met_x = 0, behind = 0;
             t->held |= ours;
             for (uint64_t left = ours; left; left &= left - 1) {
                 uint32_t k = (uint32_t)__builtin_ctzll(left);
-                uint64_t fails = s->queue_x[k] != 0;
-                fails |= s->seen[number_t][k] < s->wct[k];
-                failed |= fails << k;
+                met_x |= (uint64_t)(s->queue_x[k] != 0) << k;
+                behind |= (uint64_t)(s->seen[number_t][k] < s->wct[k]) << k;
                 s->queue[k] |= here;
                 if (t->claim_x >> k & 1)
                     s->queue_x[k] |= here;
             }
-            /* All of them have their entries; the lowest one that failed is the cause's. */
-            kind = VALID, value = number_t;
+            /* All of them have their entries. A sheet that an earlier run has claimed need not have a copy; the lowest one that failed is
+               the cause's. */
+            uint64_t failed = met_x | (behind & t->copied);
             if (failed) {
                 t->failed = 1;
                 kind = INVALID, value |= (uint32_t)__builtin_ctzll(failed) << SHEET_AT;
@@ -234,7 +286,7 @@ static inline struct end run(struct state *s, const uint8_t *session, size_t len
                 REFUSE(out_of_phase(t));
             if (t->held != t->claim)
                 REFUSE(10);
-            uint32_t before = ((uint32_t)1 << t->place) - 1, waits = 0;
+            uint32_t before = s->before[at[1]], waits = 0;
             for (uint64_t left = t->claim; left; left &= left - 1) {
                 uint32_t k = (uint32_t)__builtin_ctzll(left);
                 waits |= (t->claim_x >> k & 1 ? s->queue[k] : s->queue_x[k]) & before;
@@ -244,10 +296,12 @@ static inline struct end run(struct state *s, const uint8_t *session, size_t len
             if (t->failed) {
                 t->copied = t->written = 0;
                 t->phase = SECOND_RUN;
+                t->runs++;
                 kind = SECOND;
             } else {
                 t->phase = COMMITTED;
-                s->first_commits++;
+                s->first_commits += t->runs == 1;
+                s->second_commits += t->runs > 1;
                 kind = DECIDED;
             }
             value = 0;
@@ -266,12 +320,7 @@ static inline struct end run(struct state *s, const uint8_t *session, size_t len
             if (!ours)
                 REFUSE(11);
             t->held ^= ours;
-            uint32_t gone = ~((uint32_t)1 << t->place);
-            for (uint64_t left = ours; left; left &= left - 1) {
-                uint32_t k = (uint32_t)__builtin_ctzll(left);
-                s->queue[k] &= gone;
-                s->queue_x[k] &= gone;
-            }
+            remove_entries(s, number_t, ours);
             if (t->phase == COMMITTED)
                 for (uint64_t left = ours & t->written; left; left &= left - 1) {
                     uint32_t k = (uint32_t)__builtin_ctzll(left), v = s->copy[number_t][k];
@@ -335,6 +384,24 @@ static inline uint8_t *put_field(uint8_t *to, uint32_t number)
     return put_number(to, number);
 }
 
+/* The saves with a place, by last place; says how many. A long order is not gone over: as many saves stand before a row as have an
+   earlier last place. */
+static inline uint32_t rows_of(const struct state *s, uint8_t *row)
+{
+    uint32_t rows = 0;
+    if (s->places <= MOST_SAVES) {
+        for (uint32_t place = 0; place < s->places; place++)
+            if (s->save[s->order[place]].place == place)
+                row[rows++] = s->order[place];
+        return rows;
+    }
+    for (uint32_t left = s->placed; left; left &= left - 1, rows++) {
+        uint32_t number_t = (uint32_t)__builtin_ctz(left);
+        row[__builtin_popcount(s->before[number_t])] = (uint8_t)number_t;
+    }
+    return rows;
+}
+
 size_t plain_report(const uint8_t *session, size_t session_len, uint8_t *report, size_t report_len)
 {
     if (report_len < LEAST_BUFFER)
@@ -345,14 +412,13 @@ size_t plain_report(const uint8_t *session, size_t session_len, uint8_t *report,
         memcpy(report, "R 0 1\n", 6);
         return 6;
     }
-    uint8_t *to = report;
-    for (uint32_t place = 0; place < s.submitted; place++) {
-        const struct save *t = &s.save[s.order[place]];
-        /* The second run is entered exactly when a failed save leaves the submitted phase. */
-        uint32_t runs = t->failed && t->phase != SUBMITTED ? 2 : 1;
+    uint8_t *to = report, row[MOST_SAVES];
+    const uint32_t rows = rows_of(&s, row);
+    for (uint32_t i = 0; i < rows; i++) {
+        const struct save *t = &s.save[row[i]];
         *to++ = 'P';
-        to = put_field(to, s.order[place]);
-        to = put_field(to, runs);
+        to = put_field(to, row[i]);
+        to = put_field(to, t->runs);
         *to++ = ' ';
         *to++ = t->phase == COMMITTED ? 'C' : t->phase == DROPPED ? 'D' : 'U';
         *to++ = '\n';

@@ -1,6 +1,7 @@
 //! Compares the engine, linked as a static library, with the model on seeded sessions, each with a
 //! list of steps to be written and with neighbouring steps swapped, and checks demand 3, the causes of
-//! TAKE's answers, the counters that APPLY raises and the saves that saved nothing on each.
+//! TAKE's answers, the counters that APPLY raises, the saves that saved nothing and the second runs that
+//! open another sheet on each.
 //!
 //! `fuzz --sessions N --seed S [--prefixes] [--lengths] [--states]`
 //!
@@ -9,7 +10,7 @@
 //! state that small sessions reach. The end status is 1 on a difference, on a
 //! broken demand, and where a run of 1,000 sessions or more has left out a refusal, or one of
 //! 20,000 or more a command in some phase of its save, an outcome of a writing or a reading, a kind
-//! of neighbours, of causes, of marks or of saves that saved nothing.
+//! of neighbours, of causes, of marks, of saves that saved nothing or of wide runs.
 
 use model::command::{Command, Header, MOST_BYTES};
 use model::demand3::{self, Met};
@@ -29,6 +30,7 @@ mod counters;
 mod engine;
 mod neighbours;
 mod unchanged;
+mod wide;
 mod writing;
 
 /// What stands on both sides of a buffer, to see a write outside it.
@@ -43,7 +45,7 @@ const CELLS: usize = 7 * Phase::ALL.len();
 
 /// From so many sessions on, a refusal or a kind of commit that never occurred is a failure; from so
 /// many, a command that never came in some phase of its save, an outcome of a writing or reading, a
-/// kind of neighbours, of causes, of marks or of saves that saved nothing.
+/// kind of neighbours, of causes, of marks, of saves that saved nothing or of wide runs.
 const ALL_REFUSALS: u64 = 1_000;
 const ALL_CELLS: u64 = 20_000;
 
@@ -67,6 +69,7 @@ struct Counts {
     causes: causes::Counts,
     counters: counters::Counts,
     unchanged: unchanged::Counts,
+    wide: wide::Counts,
     neighbours: neighbours::Counts,
     writing: writing::Counts,
 }
@@ -145,6 +148,7 @@ fn one_session(seed: u64, prefixes: bool, counts: &mut Counts) -> Result<(), Str
         .map_err(|trouble| format!("demand 3 in the model: {trouble}\n{}", shown(&session)))?;
     causes::one_session(&session, &run, &mut counts.causes)?;
     unchanged::one_session(&session, &run, &mut counts.unchanged)?;
+    wide::one_session(&session, &run, &mut counts.wide)?;
     let mut compared = compare(&session, &run, &buffer, &mut prng);
     if compared.is_ok() && (prefixes || prng.one_in(4)) {
         compared =
@@ -196,6 +200,7 @@ fn every_state(header: &Header, saves: usize) -> Result<(), String> {
                 format!("demand 3 in the model: {trouble}\n{}", shown(session))
             })?;
             unchanged::one_session(session, &run, &mut Default::default())?;
+            wide::one_session(session, &run, &mut Default::default())?;
             pairs_tried += neighbours::in_state(session, &run, &pairs)?;
         }
         compare(session, &run, &buffer, &mut prng)?;
@@ -360,9 +365,11 @@ fn count(session: &[u8], run: &Session, buffer: &[u8], met: Met, counts: &mut Co
         counts.accepted += engine.tally.accepted as u64;
         counts.first_commits += engine.tally.first_run_commits as u64;
         counts.second_commits += engine.tally.second_run_commits as u64;
-        counts.all_saves += (engine.order.len() == 32) as u64;
-        let dropped = |&&save: &&usize| engine.saves[save].phase == Phase::Dropped;
-        counts.second_run_drops += engine.order.iter().filter(dropped).count() as u64;
+        let last = |&place: &usize| !engine.former(place);
+        let placed: Vec<usize> = (0..engine.order.len()).filter(last).collect();
+        counts.all_saves += (placed.len() == 32) as u64;
+        let dropped = |&&place: &&usize| engine.saves[engine.order[place]].phase == Phase::Dropped;
+        counts.second_run_drops += placed.iter().filter(dropped).count() as u64;
         let longest = engine.sheets.iter().map(|sheet| sheet.queue.len()).max().unwrap_or(0);
         counts.longest_queue = counts.longest_queue.max(longest);
     }
@@ -371,6 +378,7 @@ fn count(session: &[u8], run: &Session, buffer: &[u8], met: Met, counts: &mut Co
 /// Prints the counts; says whether something never occurred that so many sessions have.
 fn close(counts: &Counts) -> bool {
     let left_out = [
+        counts.wide.close(),
         counts.causes.close(),
         counts.counters.close(),
         counts.unchanged.close(),
@@ -380,7 +388,7 @@ fn close(counts: &Counts) -> bool {
     println!(
         "met: {} prefixes, {} reads and {} stores against the serial run, {} states with entries, \
          {} tail steps (nearest to the bound: {}), TAKE valid {} invalid {}, second runs {} \
-         (given up {}), longest queue left {}, {} sessions of 16384 bytes, {} with 32 places, \
+         (given up {}), longest queue left {}, {} sessions of 16384 bytes, {} with 32 saves placed, \
          {} of {CELLS} commands by phase (the rarest {} times)",
         counts.prefixes,
         counts.met.reads,
@@ -408,7 +416,9 @@ fn close(counts: &Counts) -> bool {
         counts.second_commits,
         refusals.join(" ")
     );
-    let refusal_left_out = counts.refusals[1..].contains(&0);
+    // Nothing gives 8 any more.
+    let others = [&counts.refusals[1..8], &counts.refusals[9..]].concat();
+    let refusal_left_out = others.contains(&0) || counts.refusals[8] > 0;
     let commit_left_out = counts.first_commits == 0 || counts.second_commits == 0;
     let cell_left_out = counts.cells.len() < CELLS;
     let kind_left_out = cell_left_out || left_out.contains(&true);

@@ -285,11 +285,18 @@ fn refusal_7() {
 }
 
 #[test]
-fn refusal_8() {
-    refused(&w_with(43, "02 01 01", 3), 43, 8, 3);
-    refused(&w_with(43, "02 01 01", 0), 43, 8, 3);
-    // 8 comes before 7: no copy, and not X in the claim.
-    refused(&w_with(43, "03 01 01 00 00 00 00", 0), 43, 8, 7);
+fn what_was_refusal_8() {
+    // A READ outside the claim opens the sheet. Save 1 then has no copy of sheet 0 to write to.
+    refused(&w_with(43, "02 01 01", 3), 46, 7, 7);
+    // With a copy, the run is submitted again, and there is nothing to carry out yet.
+    refused(&w_with(43, "02 01 01", 0), 58, 5, 3);
+    // A WRITE outside the claim needs a copy like any other.
+    refused(&w_with(43, "03 01 01 00 00 00 00", 0), 43, 7, 7);
+    // One that is only S in the claim is written.
+    let mut session = fresh("01 00 01 01 02 00 00 03 00 00 00 00 00 01 02 01 00 04 00 04 01");
+    session.extend(bytes("05 00 05 00 06 00 07 00 00 06 01 02 01 00 03 01 00 00 00 00 02"));
+    assert_eq!(end_of(&session).saves[1].claim[&0], Lock::S);
+    assert_eq!(Session::run(&session).answer(), 1 << 48);
 }
 
 #[test]
@@ -346,8 +353,8 @@ fn refusal_14() {
 
 #[test]
 fn every_command_in_every_phase() {
-    // Save 1 of W: unused, in its first run, submitted, in its second run, committed, dropped. In each of
-    // them save 0 is in the order and node 1 has taken nothing.
+    // Save 1 of W: unused, in its first run, submitted, in its second run, committed, dropped; then in a
+    // wide run and submitted from it. In each of them save 0 is in the order and node 1 has taken nothing.
     let after = |offset, more| [&bytes(W)[..offset], &bytes(more)].concat();
     let unused = bytes("02 02 00 01 01 00 04 00");
     let phases = [
@@ -357,17 +364,19 @@ fn every_command_in_every_phase() {
         after(46, ""),
         after(46, "04 01"),
         after(43, "08 01"),
+        after(46, "02 01 01"),
+        after(46, "02 01 01 04 01"),
     ];
-    // The refusal in each of them; 0 where the command is accepted.
+    // The refusal in each of them; 0 where the command is accepted. DECIDE waits for the last place.
     let table = [
-        ("01 01", [0, 5, 5, 5, 14, 14]),
-        ("02 01 00", [13, 0, 5, 0, 14, 14]),
-        ("03 01 00 00 00 00 09", [13, 0, 5, 0, 14, 14]),
-        ("04 01", [13, 0, 5, 0, 14, 14]),
-        ("05 01", [0, 0, 0, 0, 0, 0]),
-        ("06 01", [13, 5, 0, 5, 14, 14]),
-        ("07 00 01", [13, 5, 5, 5, 0, 0]),
-        ("08 01", [13, 0, 5, 0, 14, 14]),
+        ("01 01", [0, 5, 5, 5, 14, 14, 5, 5]),
+        ("02 01 00", [13, 0, 5, 0, 14, 14, 0, 5]),
+        ("03 01 00 00 00 00 09", [13, 0, 5, 0, 14, 14, 0, 5]),
+        ("04 01", [13, 0, 5, 0, 14, 14, 0, 5]),
+        ("05 01", [0, 0, 0, 0, 0, 0, 0, 0]),
+        ("06 01", [13, 5, 0, 5, 14, 14, 5, 10]),
+        ("07 00 01", [13, 5, 5, 5, 0, 0, 5, 5]),
+        ("08 01", [13, 0, 5, 0, 14, 14, 0, 5]),
     ];
     for (command, numbers) in table {
         for (start, number) in phases.iter().zip(numbers) {
@@ -431,7 +440,7 @@ fn the_checks_of_demand_3_see_a_wrong_read_and_a_wrong_store() {
     let check = |steps: &[_], engine: &Engine| {
         demand3::check_list(&header, steps, engine, &mut demand3::Met::default())
     };
-    assert_eq!(check(&run.steps, &engine), Ok(()));
+    assert!(check(&run.steps, &engine).is_ok());
     let mut wrong = run.steps.clone();
     wrong[13].answer = Answer::Content(0);
     assert!(check(&wrong, &engine).unwrap_err().starts_with("reads"));

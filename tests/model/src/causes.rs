@@ -5,13 +5,19 @@ use crate::command::Command;
 use crate::engine::{Answer, Cause, Copy, Engine, Lock, Rule, Sheet, Verdict};
 use crate::session::Session;
 
-/// Every cause against the save that the node takes next, by sheet and then by rule.
+/// Every cause against the save that the node takes next, by sheet and then by rule; at a former place of
+/// the save there is none.
 fn causes(state: &Engine, node: usize) -> Vec<Cause> {
-    let taken = &state.saves[state.order[state.taken[node]]];
+    let mut ahead = state.order[state.taken[node]..].iter();
+    let save = ahead.next().expect("a place to take");
     let mut all = Vec::new();
+    if ahead.any(|later| later == save) {
+        return all;
+    }
+    let taken = &state.saves[*save];
     for rule in Rule::ALL {
         for &number in taken.claim.keys().filter(|&&number| state.sheets[number].owner == node) {
-            if stands(rule, &state.sheets[number], &taken.copies[&number]) {
+            if stands(rule, &state.sheets[number], taken.copies.get(&number)) {
                 all.push(Cause { sheet: number, rule });
             }
         }
@@ -20,8 +26,9 @@ fn causes(state: &Engine, node: usize) -> Vec<Cause> {
     all
 }
 
-/// Each rule by itself, whatever the others say: an X that waits may stand behind a granted one.
-fn stands(rule: Rule, sheet: &Sheet, copy: &Copy) -> bool {
+/// Each rule by itself, whatever the others say: an X that waits may stand behind a granted one. A sheet of
+/// an earlier run's claim need not have a copy.
+fn stands(rule: Rule, sheet: &Sheet, copy: Option<&Copy>) -> bool {
     let x_at = |fits: fn(usize) -> bool| {
         let mut places = sheet.queue.iter().enumerate();
         places.any(|(place, entry)| entry.lock == Lock::X && fits(place))
@@ -29,7 +36,7 @@ fn stands(rule: Rule, sheet: &Sheet, copy: &Copy) -> bool {
     match rule {
         Rule::XGranted => x_at(|place| place == 0),
         Rule::XWaiting => x_at(|place| place > 0),
-        Rule::CounterBehind => copy.wct_seen < sheet.wct,
+        Rule::CounterBehind => copy.is_some_and(|copy| copy.wct_seen < sheet.wct),
     }
 }
 

@@ -1,10 +1,10 @@
 //! Demand 3, checked at run time on a session: the reads, the store, the runs, the bound and the
-//! progress.
+//! progress. A second run is any run after the first.
 
 use crate::command::{Command, Header, MOST_SAVES};
 use crate::engine::{Answer, Engine, Phase};
 use crate::prng::Prng;
-use crate::serial::{serial_run, Fed};
+use crate::serial::{serial_run, Fed, Serial};
 use crate::session::{Session, Step};
 
 /// What the checks met, so that a run can say how much they were worth.
@@ -14,7 +14,7 @@ pub struct Met {
     pub stores: u64,
     pub queued_states: u64,
     pub tail_steps: u64,
-    /// The least distance of a tail from its bound, over tails with a submitted save.
+    /// The least distance of a tail from its bound, over tails with a place in the order.
     pub least_slack: Option<u64>,
 }
 
@@ -72,10 +72,11 @@ fn check_from(
     prng: &mut Prng,
     met: &mut Met,
 ) -> Result<(), String> {
-    check_list(header, steps, &engine, met)?;
+    let serial = check_list(header, steps, &engine, met)?;
 
-    let submitted = engine.order.len() as u64;
-    let bound = (2 * header.nodes as u64 + 2) * submitted;
+    // Each run that is already wide can take one place more.
+    let places = (serial.places + serial.wide) as u64;
+    let bound = (2 * header.nodes as u64 + 2) * places;
     let mut whole = steps.to_vec();
     let mut tail = 0;
     let mut candidates = four_kinds(&engine);
@@ -103,23 +104,24 @@ fn check_from(
         }
     }
     met.tail_steps += tail;
-    if submitted > 0 {
+    if places > 0 {
         let slack = bound - tail;
         met.least_slack = Some(met.least_slack.map_or(slack, |least| least.min(slack)));
     }
     if has_entry(&engine) {
         return Err("progress: an entry is left after the tail".to_string());
     }
-    check_list(header, &whole, &engine, met)
+    check_list(header, &whole, &engine, met).map(|_| ())
 }
 
-/// The reads, the store and the runs after a list of accepted commands that led to `engine`.
+/// The reads, the store and the runs after a list of accepted commands that led to `engine`; gives their
+/// serial run.
 pub fn check_list(
     header: &Header,
     steps: &[Step],
     engine: &Engine,
     met: &mut Met,
-) -> Result<(), String> {
+) -> Result<Serial, String> {
     let fed: Vec<Fed> = steps.iter().map(fed).collect();
     let serial = serial_run(header, &fed);
     for read in &serial.met {
@@ -132,7 +134,8 @@ pub fn check_list(
             ));
         }
     }
-    if let Some(save) = serial.runs.iter().position(|&runs| runs > 2) {
+    let most_runs = 2 + 2 * header.sheets() as u32;
+    if let Some(save) = serial.runs.iter().position(|&runs| runs > most_runs) {
         return Err(format!("runs: save {save} entered {}", serial.runs[save]));
     }
     if serial.committed.iter().all(|&save| carried_out(steps, engine, save)) {
@@ -143,10 +146,11 @@ pub fn check_list(
             return Err(format!("store: {store:?}, the serial run {:?}", serial.store));
         }
     }
-    Ok(())
+    Ok(serial)
 }
 
-fn fed(step: &Step) -> Fed {
+/// What the serial run is fed of a step.
+pub fn fed(step: &Step) -> Fed {
     match (step.command, step.answer) {
         (Command::Decide { save }, answer) => {
             Fed::Decided { save, committed: answer == Answer::Committed }

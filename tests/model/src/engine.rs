@@ -8,6 +8,7 @@ pub enum Phase {
     Unused,
     FirstRun,
     Submitted,
+    /// Any run after the first.
     SecondRun,
     Committed,
     Dropped,
@@ -24,8 +25,8 @@ impl Phase {
     ];
 }
 
-/// S is shared, X exclusive.
-#[derive(Clone, Copy, Debug, PartialEq, Eq, Hash)]
+/// S is shared, X exclusive; X is the larger.
+#[derive(Clone, Copy, Debug, PartialEq, Eq, PartialOrd, Ord, Hash)]
 pub enum Lock {
     S,
     X,
@@ -39,6 +40,17 @@ pub struct Copy {
     pub written: bool,
 }
 
+impl Copy {
+    /// What the copy asks of a claim.
+    pub fn lock(&self) -> Lock {
+        if self.written {
+            Lock::X
+        } else {
+            Lock::S
+        }
+    }
+}
+
 #[derive(Clone, Debug, PartialEq, Eq, Hash)]
 pub struct Save {
     pub phase: Phase,
@@ -46,6 +58,27 @@ pub struct Save {
     pub copies: BTreeMap<usize, Copy>,
     pub claim: BTreeMap<usize, Lock>,
     pub failed: bool,
+}
+
+impl Save {
+    /// Does some copy exceed the claim? In a later run this is a sheet outside the claim that was touched, or
+    /// one that is only S and was written.
+    fn exceeds_claim(&self) -> bool {
+        self.copies.iter().any(|(sheet, copy)| self.claim.get(sheet) < Some(&copy.lock()))
+    }
+
+    /// Is the save in a later run that is wide?
+    pub fn wide(&self) -> bool {
+        self.phase == Phase::SecondRun && self.exceeds_claim()
+    }
+
+    /// Each sheet's new claim is the larger of claim and copy.
+    fn join_copies(&mut self) {
+        for (&sheet, copy) in &self.copies {
+            let lock = self.claim.entry(sheet).or_insert(Lock::S);
+            *lock = copy.lock().max(*lock);
+        }
+    }
 }
 
 #[derive(Clone, Copy, Debug, PartialEq, Eq, Hash)]
@@ -71,14 +104,15 @@ impl Sheet {
         }
     }
 
-    /// The first rule by which the sheet fails a save with this copy: an X comes before the counter.
-    fn fails(&self, copy: &Copy) -> Option<Rule> {
+    /// The first rule by which the sheet fails a save with this copy, or with none: an X comes before the
+    /// counter, which is compared with a copy only.
+    fn fails(&self, copy: Option<&Copy>) -> Option<Rule> {
         let is_x = |entry: &Entry| entry.lock == Lock::X;
         if self.queue.first().is_some_and(is_x) {
             Some(Rule::XGranted)
         } else if self.queue.iter().any(is_x) {
             Some(Rule::XWaiting)
-        } else if copy.wct_seen < self.wct {
+        } else if copy.is_some_and(|copy| copy.wct_seen < self.wct) {
             Some(Rule::CounterBehind)
         } else {
             None
@@ -133,9 +167,10 @@ pub enum Answer {
 pub struct Engine {
     pub sheets: Vec<Sheet>,
     pub saves: Vec<Save>,
-    /// The submitted saves, by first-run SUBMIT.
+    /// The places: the save of each first-run SUBMIT and of each SUBMIT of a wide run. The last place of a
+    /// save is the one that counts, the others are former ones.
     pub order: Vec<usize>,
-    /// For each node, how many saves of the order it has taken.
+    /// For each node, how many places of the order it has taken.
     pub taken: Vec<usize>,
     pub tally: Tally,
 }
@@ -169,7 +204,8 @@ impl Engine {
         Ok(answer)
     }
 
-    /// The number that the command, well formed and in range, is refused with: 5 to 11, 13 or 14.
+    /// The number that the command, well formed and in range, is refused with: 5, 6, 7, 9, 10, 11, 13 or 14.
+    /// Nothing gives 8 any more.
     pub fn refusal(&self, command: Command) -> Option<u8> {
         if let Some(number) = self.refusal_of_phase(command) {
             return Some(number);
@@ -215,35 +251,29 @@ impl Engine {
         }
     }
 
+    /// An X holds first-run READs only.
     fn refusal_of_read(&self, save: usize, sheet: usize) -> Option<u8> {
         let reader = &self.saves[save];
-        if reader.copies.contains_key(&sheet) {
-            return None;
-        }
-        if reader.phase == Phase::SecondRun {
-            return if reader.claim.contains_key(&sheet) { None } else { Some(8) };
-        }
+        let own = reader.copies.contains_key(&sheet);
         match self.sheets[sheet].queue.first() {
-            Some(Entry { lock: Lock::X, .. }) => Some(6),
+            Some(Entry { lock: Lock::X, .. }) if reader.phase == Phase::FirstRun && !own => Some(6),
             _ => None,
         }
     }
 
     fn refusal_of_write(&self, save: usize, sheet: usize) -> Option<u8> {
-        let writer = &self.saves[save];
-        if writer.phase == Phase::SecondRun && writer.claim.get(&sheet) != Some(&Lock::X) {
-            return Some(8);
-        }
-        if writer.copies.contains_key(&sheet) {
-            None
-        } else {
-            Some(7)
-        }
+        let own = self.saves[save].copies.contains_key(&sheet);
+        (!own).then_some(7)
     }
 
-    /// Taken by every node that owns a claimed sheet, and all entries granted.
+    /// Is the place not its save's last?
+    pub fn former(&self, place: usize) -> bool {
+        self.order[place + 1..].contains(&self.order[place])
+    }
+
+    /// The last place taken by every node that owns a claimed sheet, and all entries granted.
     fn decidable(&self, save: usize) -> bool {
-        let place = self.order.iter().position(|&other| other == save);
+        let place = self.order.iter().rposition(|&other| other == save);
         let place = place.expect("a submitted save has a place in the order");
         let taken_at = |sheet: usize| self.taken[self.sheets[sheet].owner] > place;
         let granted_at = |sheet: usize| {
@@ -280,12 +310,13 @@ impl Engine {
                 Answer::Accepted
             }
             Command::Submit { save } => {
-                match self.saves[save].phase {
-                    Phase::FirstRun => self.submit_first_run(save),
-                    _ => {
-                        self.saves[save].phase = Phase::Committed;
-                        self.tally.second_run_commits += 1;
-                    }
+                if self.saves[save].phase == Phase::FirstRun {
+                    self.take_place(save);
+                } else if self.saves[save].wide() {
+                    self.withdraw(save);
+                    self.take_place(save);
+                } else {
+                    self.commit(save);
                 }
                 Answer::Accepted
             }
@@ -298,8 +329,7 @@ impl Engine {
                     decided.runs += 1;
                     Answer::SecondRun
                 } else {
-                    decided.phase = Phase::Committed;
-                    self.tally.first_run_commits += 1;
+                    self.commit(save);
                     Answer::Committed
                 }
             }
@@ -314,19 +344,39 @@ impl Engine {
         }
     }
 
-    fn submit_first_run(&mut self, save: usize) {
+    /// Joins the end of the order, with a claim for all copies.
+    fn take_place(&mut self, save: usize) {
         let submitted = &mut self.saves[save];
-        for (&sheet, copy) in &submitted.copies {
-            let lock = if copy.written { Lock::X } else { Lock::S };
-            submitted.claim.insert(sheet, lock);
-        }
+        submitted.join_copies();
         submitted.phase = Phase::Submitted;
         self.order.push(save);
     }
 
+    /// Takes back what the nodes did at the save's last place, which is a former one now.
+    fn withdraw(&mut self, save: usize) {
+        for sheet in &mut self.sheets {
+            sheet.queue.retain(|entry| entry.save != save);
+        }
+        self.saves[save].failed = false;
+    }
+
+    fn commit(&mut self, save: usize) {
+        let committed = &mut self.saves[save];
+        committed.phase = Phase::Committed;
+        if committed.runs == 1 {
+            self.tally.first_run_commits += 1;
+        } else {
+            self.tally.second_run_commits += 1;
+        }
+    }
+
     fn take(&mut self, node: usize) -> Answer {
-        let save = self.order[self.taken[node]];
+        let place = self.taken[node];
+        let save = self.order[place];
         self.taken[node] += 1;
+        if self.former(place) {
+            return Answer::Taken { save, verdict: Verdict::Valid };
+        }
         let taken = &mut self.saves[save];
         let mut verdict = Verdict::Valid;
         // Every claimed sheet gets its entry, also after a failing one: the second run needs it.
@@ -335,7 +385,8 @@ impl Engine {
             if sheet.owner != node {
                 continue;
             }
-            if let (Verdict::Valid, Some(rule)) = (verdict, sheet.fails(&taken.copies[&number])) {
+            if let (Verdict::Valid, Some(rule)) = (verdict, sheet.fails(taken.copies.get(&number)))
+            {
                 verdict = Verdict::Invalid(Cause { sheet: number, rule });
             }
             sheet.queue.push(Entry { save, lock });

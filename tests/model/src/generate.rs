@@ -2,8 +2,9 @@
 //! damaged ones.
 
 use crate::command::{Command, Header, MOST_BYTES, MOST_NODES, MOST_SAVES, MOST_SHEETS};
-use crate::engine::{Engine, Phase, Save};
+use crate::engine::{Engine, Lock, Phase, Save};
 use crate::prng::Prng;
+use std::collections::VecDeque;
 
 /// One fuzz input: a session, and the report buffer as it stands before the call.
 #[derive(Clone, Debug)]
@@ -13,7 +14,14 @@ pub struct Input {
 }
 
 pub fn input(prng: &mut Prng) -> Input {
-    let session = if prng.one_in(4) { damaged(prng) } else { guided(prng) };
+    let session = if prng.one_in(IN_TURNS) {
+        let (header, saves, length) = turns_plan(prng);
+        turns(prng, header, saves, length)
+    } else if prng.one_in(4) {
+        damaged(prng)
+    } else {
+        guided(prng)
+    };
     Input { session, buffer: buffer(prng) }
 }
 
@@ -43,6 +51,8 @@ struct Plan {
     weights: [usize; 8],
     /// Do the weights change on the way?
     moods: bool,
+    /// A save in a later run takes a turn, which makes the run wide, once in so many commands.
+    turn: usize,
     /// A refused command is kept once in so many; 0 for never.
     keep_refused: usize,
     /// A refusal to end with, looked for once the session has so many bytes.
@@ -51,6 +61,12 @@ struct Plan {
     second_run: bool,
     /// The sheets that most READs and WRITEs go to.
     hot: usize,
+}
+
+impl Plan {
+    fn in_turns(&self) -> bool {
+        self.turn < WHOLE
+    }
 }
 
 /// Rare APPLYs make long queues, rare SUBMITs large claims, rare TAKEs lagging nodes; many saves
@@ -67,7 +83,10 @@ const MOODS: [[usize; 8]; 6] = [
 /// A save is carried through from its BEGIN to its APPLY once in so many commands.
 const WHOLE: usize = 32;
 
-/// A save runs twice at most, so only READs and WRITEs can fill a long session.
+/// One session in so many is of saves that do nothing but open sheets in turns.
+const IN_TURNS: usize = 400;
+
+/// Without turns a save has few runs, so only READs and WRITEs can fill a long session.
 const LONG: [usize; 8] = [3, 400, 300, 4, 24, 14, 14, 1];
 
 pub fn header(prng: &mut Prng, nodes: usize, sheets: usize) -> Header {
@@ -77,8 +96,11 @@ pub fn header(prng: &mut Prng, nodes: usize, sheets: usize) -> Header {
     Header { nodes, owner }
 }
 
-fn plan(prng: &mut Prng) -> Plan {
-    let (nodes, sheets, saves, length) = match prng.below(40) {
+/// Counts of nodes, sheets and saves, and the length aimed at.
+type Sizes = (usize, usize, usize, usize);
+
+fn sizes(prng: &mut Prng) -> Sizes {
+    match prng.below(40) {
         0..=14 => (prng.between(1, 3), prng.between(1, 3), prng.between(2, 5), 400),
         15..=27 => (prng.between(1, 4), prng.between(1, 6), prng.between(3, 10), 1_000),
         28..=34 => (prng.between(1, MOST_NODES), prng.between(2, 12), prng.between(6, 32), 2_500),
@@ -86,12 +108,29 @@ fn plan(prng: &mut Prng) -> Plan {
         37 => (MOST_NODES, MOST_SHEETS, MOST_SAVES, 5_000),
         38 => (prng.between(1, MOST_NODES), prng.between(1, 8), MOST_SAVES, MOST_BYTES),
         _ => (MOST_NODES, MOST_SHEETS, MOST_SAVES, MOST_BYTES),
-    };
+    }
+}
+
+/// Few saves, so that each of them has many turns, and sheets enough to open.
+fn sizes_with_turns(prng: &mut Prng) -> Sizes {
+    match prng.below(8) {
+        0..=3 => (prng.between(1, 3), prng.between(2, 6), prng.between(3, 5), 600),
+        4..=6 => (prng.between(1, 4), prng.between(3, 12), prng.between(3, 8), 1_600),
+        _ => {
+            (prng.between(1, MOST_NODES), prng.between(8, MOST_SHEETS), prng.between(3, 12), 2_500)
+        }
+    }
+}
+
+fn plan(prng: &mut Prng) -> Plan {
+    let in_turns = prng.one_in(5);
+    let (nodes, sheets, saves, length) =
+        if in_turns { sizes_with_turns(prng) } else { sizes(prng) };
     let long = length == MOST_BYTES;
     let length = if long { length } else { prng.between(length / 8, length) };
     let wanted = if prng.one_in(2) {
         // The numbers that need a history are wanted more often than the others.
-        let number = prng.pick(&[2, 3, 4, 5, 5, 5, 6, 6, 7, 8, 8, 8, 9, 10, 10, 11, 13, 14, 14]);
+        let number = prng.pick(&[2, 3, 4, 5, 5, 5, 6, 6, 7, 7, 9, 10, 10, 11, 13, 14, 14]);
         Some((number, prng.below(length)))
     } else {
         None
@@ -102,10 +141,11 @@ fn plan(prng: &mut Prng) -> Plan {
         length,
         weights: if long { LONG } else { MOODS[0] },
         moods: !long,
+        turn: if in_turns { prng.between(2, 6) } else { 64 },
         keep_refused: prng.pick(&[0, 0, 0, 2_000, 300]),
         wanted,
         second_run: prng.one_in(2),
-        hot: prng.between(1, sheets.min(6)),
+        hot: prng.between(1, sheets.min(if in_turns { 2 } else { 6 })),
     }
 }
 
@@ -141,9 +181,13 @@ pub fn guided(prng: &mut Prng) -> Vec<u8> {
         if plan.moods && whole.is_empty() && prng.one_in(WHOLE) {
             whole = whole_save(prng, &plan, &engine);
         }
+        if plan.moods && whole.is_empty() && prng.one_in(plan.turn) {
+            whole = turn(prng, &plan, &engine);
+        }
         let command = whole.pop().unwrap_or_else(|| candidate(prng, &plan, &engine));
         let bytes = command.bytes();
-        if session.len() + bytes.len() > MOST_BYTES || ends_too_early(&plan, &engine, command) {
+        let too_early = ends_too_early(prng, &plan, &engine, command);
+        if session.len() + bytes.len() > MOST_BYTES || too_early {
             in_vain += 1;
             continue;
         }
@@ -177,8 +221,79 @@ fn whole_save(prng: &mut Prng, plan: &Plan, engine: &Engine) -> Vec<Command> {
     steps
 }
 
-/// A long session needs a running save to its end, or nothing could fill it.
-fn ends_too_early(plan: &Plan, engine: &Engine, command: Command) -> bool {
+/// The steps of a turn, the last one first: a later run opens a sheet, or writes one that is only S, is
+/// submitted again and taken at most of its nodes; then the saves that come to stand first are decided.
+fn turn(prng: &mut Prng, plan: &Plan, engine: &Engine) -> Vec<Command> {
+    let save = save_in(prng, plan, engine, &[Phase::SecondRun]);
+    let claim = &engine.saves[save].claim;
+    if engine.saves[save].phase != Phase::SecondRun {
+        return Vec::new();
+    }
+    let mut steps = touch(prng, plan, engine, save);
+    let given_up = prng.one_in(24);
+    steps.push(if given_up { Command::GiveUp { save } } else { Command::Submit { save } });
+    let mut nodes: Vec<usize> = (0..plan.header.nodes).collect();
+    prng.shuffle(&mut nodes);
+    let touched = |sheet: usize| {
+        let reads =
+            |step: &Command| matches!(step, Command::Read { sheet: read, .. } if *read == sheet);
+        claim.contains_key(&sheet) || steps.iter().any(reads)
+    };
+    let owns =
+        |node: usize| (0..plan.header.sheets()).any(|k| plan.header.owner[k] == node && touched(k));
+    nodes.retain(|&node| if owns(node) { !prng.one_in(16) } else { prng.one_in(8) });
+    for node in nodes {
+        let behind = engine.order.len() - engine.taken[node];
+        steps.extend(vec![Command::Take { node }; behind + 1]);
+    }
+    let mut others: Vec<usize> =
+        (0..plan.saves).filter(|&other| engine.saves[other].phase == Phase::Submitted).collect();
+    prng.shuffle(&mut others);
+    steps.extend(others.into_iter().chain([save]).map(|save| Command::Decide { save }));
+    steps.reverse();
+    steps
+}
+
+/// READs and WRITEs that make the save's later run wide, if its claim is not whole.
+fn touch(prng: &mut Prng, plan: &Plan, engine: &Engine, save: usize) -> Vec<Command> {
+    let claim = &engine.saves[save].claim;
+    let with = |lock: Option<&Lock>| -> Vec<usize> {
+        (0..plan.header.sheets()).filter(|sheet| claim.get(sheet) == lock).collect()
+    };
+    let [outside, shared, exclusive] = [None, Some(&Lock::S), Some(&Lock::X)].map(with);
+    let mut steps = Vec::new();
+    let mut touched = |prng: &mut Prng, sheets: &[usize], written: bool| {
+        let sheet = prng.pick(sheets);
+        steps.push(Command::Read { save, sheet });
+        if written {
+            let content = content_for(prng, engine, sheet);
+            steps.push(Command::Write { save, sheet, content });
+        }
+    };
+    if !exclusive.is_empty() && prng.one_in(2) {
+        let written = prng.one_in(2);
+        touched(prng, &exclusive, written);
+    }
+    let opens = !outside.is_empty() && (shared.is_empty() || !prng.one_in(3));
+    if opens {
+        let written = prng.one_in(4);
+        touched(prng, &outside, written);
+    }
+    if !shared.is_empty() && (!opens || prng.one_in(6)) {
+        touched(prng, &shared, true);
+    }
+    steps
+}
+
+/// A session in turns must not commit its saves too soon; a long one needs a running save to its end, or
+/// nothing could fill it.
+fn ends_too_early(prng: &mut Prng, plan: &Plan, engine: &Engine, command: Command) -> bool {
+    if let Command::Submit { save } = command {
+        let save = &engine.saves[save];
+        if plan.in_turns() && save.phase == Phase::SecondRun && !save.wide() {
+            return !prng.one_in(8);
+        }
+    }
     if plan.moods || !matches!(command, Command::Submit { .. } | Command::GiveUp { .. }) {
         return false;
     }
@@ -476,4 +591,104 @@ pub fn full(prng: &mut Prng) -> Vec<u8> {
         rest = put(&mut engine, command);
     }
     session
+}
+
+/// Many sheets at few nodes: a save then has up to 128 places, or the order up to 1,800.
+fn turns_plan(prng: &mut Prng) -> (Header, usize, usize) {
+    let nodes = prng.pick(&[1, 1, 2, 3, MOST_NODES]);
+    let sheets = prng.pick(&[MOST_SHEETS, MOST_SHEETS, 56]);
+    let saves = prng.pick(&[2, 2, 3, 8, MOST_SAVES - 1]);
+    (header(prng, nodes, sheets), saves, prng.between(8_000, MOST_BYTES))
+}
+
+/// So many saves hold an X on sheet 0 and stand in its queue, where one before them has failed them all. The
+/// first of them opens a sheet, or writes one that is only S, and goes to the end, where the X of the others
+/// fails it again; then it is the next one's turn. A save whose claim is whole commits.
+pub fn turns(prng: &mut Prng, header: Header, saves: usize, length: usize) -> Vec<u8> {
+    let mut line = Line::new(header, length);
+    let nodes = line.header.nodes;
+    let first = saves;
+    for save in [first].into_iter().chain(0..saves) {
+        line.put(Command::Begin { save });
+        line.put(Command::Read { save, sheet: 0 });
+    }
+    // Save 0 has an S to begin with: nothing that it could have less.
+    for save in 1..=first {
+        line.put(Command::Write { save, sheet: 0, content: content(prng) });
+    }
+    for save in [first].into_iter().chain(0..saves) {
+        line.put(Command::Submit { save });
+        (0..nodes).for_each(|node| line.put(Command::Take { node }));
+    }
+    line.put(Command::Decide { save: first });
+    (0..nodes).for_each(|node| line.put(Command::Apply { node, save: first }));
+    let mut waiting: VecDeque<usize> = (0..saves).collect();
+    while let Some(save) = waiting.pop_front().filter(|_| !line.full()) {
+        // Nodes that own nothing of the claim may lag behind.
+        let mut concerned: Vec<usize> =
+            line.engine.saves[save].claim.keys().map(|&sheet| line.header.owner[sheet]).collect();
+        concerned.sort();
+        concerned.dedup();
+        concerned.into_iter().for_each(|node| line.catch_up(node));
+        line.put(Command::Decide { save });
+        if line.engine.saves[save].phase == Phase::SecondRun {
+            line.open(prng, save);
+            line.put(Command::Submit { save });
+            line.catch_up(line.header.owner[0]);
+        }
+        if line.engine.saves[save].phase == Phase::Submitted {
+            waiting.push_back(save);
+        } else {
+            (0..nodes).for_each(|node| line.put(Command::Apply { node, save }));
+        }
+    }
+    line.session
+}
+
+/// A session that grows by accepted commands only, up to a length.
+struct Line {
+    header: Header,
+    engine: Engine,
+    session: Vec<u8>,
+    length: usize,
+}
+
+impl Line {
+    fn new(header: Header, length: usize) -> Line {
+        let (engine, session) = (Engine::new(&header), header.bytes());
+        Line { header, engine, session, length }
+    }
+
+    fn full(&self) -> bool {
+        self.length - self.session.len() < 16
+    }
+
+    fn catch_up(&mut self, node: usize) {
+        for _ in self.engine.taken[node]..self.engine.order.len() {
+            self.put(Command::Take { node });
+        }
+    }
+
+    fn put(&mut self, command: Command) {
+        let bytes = command.bytes();
+        if self.session.len() + bytes.len() <= self.length && self.engine.step(command).is_ok() {
+            self.session.extend(bytes);
+        }
+    }
+
+    /// The save's run takes in the least that makes it wide: one more sheet, or an X for an S.
+    fn open(&mut self, prng: &mut Prng, save: usize) {
+        let claim = &self.engine.saves[save].claim;
+        let with =
+            |lock: Option<&Lock>| (0..self.header.sheets()).find(|sheet| claim.get(sheet) == lock);
+        let [outside, shared] = [None, Some(&Lock::S)].map(with);
+        // Without an X on sheet 0 it would fail no other.
+        let opens = shared.is_none() || shared > Some(0) && !prng.one_in(4);
+        if let Some(sheet) = outside.filter(|_| opens) {
+            self.put(Command::Read { save, sheet });
+        } else if let Some(sheet) = shared {
+            self.put(Command::Read { save, sheet });
+            self.put(Command::Write { save, sheet, content: content(prng) });
+        }
+    }
 }

@@ -18,6 +18,7 @@ pub mod serial;
 pub mod session;
 pub mod states;
 pub mod unchanged;
+pub mod wide;
 pub mod writing;
 
 #[cfg(test)]
@@ -30,5 +31,7 @@ mod counters_cases;
 mod neighbours_cases;
 #[cfg(test)]
 mod unchanged_cases;
+#[cfg(test)]
+mod wide_cases;
 #[cfg(test)]
 mod writing_cases;

@@ -9,7 +9,8 @@ pub const LEAST_BUFFER: usize = 4_096;
 pub fn report(session: &Session) -> Vec<u8> {
     let mut text = String::new();
     if let Some((_, engine)) = &session.started {
-        for &save in &engine.order {
+        let last = |&(place, _): &(usize, &usize)| !engine.former(place);
+        for (_, &save) in engine.order.iter().enumerate().filter(last) {
             let outcome = match engine.saves[save].phase {
                 Phase::Committed => 'C',
                 Phase::Dropped => 'D',

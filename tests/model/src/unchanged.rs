@@ -1,7 +1,7 @@
 //! Saves that saved nothing: a content that is stored again is no modification. So a sheet's WCT counts how
 //! often its content changed, and a copy with the sheet's own WCT was read from the content that is there;
 //! where an APPLY stores, that is what the save's last run has read; but an X stands wherever there was a
-//! WRITE, whatever it wrote.
+//! WRITE, whatever it wrote, in a run that joined the claim.
 
 use crate::command::{Command, Header, MOST_SAVES};
 use crate::engine::{Answer, Cause, Engine, Entry, Lock, Phase, Rule, Sheet, Verdict};
@@ -50,7 +50,9 @@ pub struct Watch {
     changes: Vec<u32>,
     /// By save and sheet.
     readings: Vec<BTreeMap<usize, Reading>>,
-    /// The sheets that each save has written in its first run.
+    /// The sheets that each save has written in its present run; in its runs that a SUBMIT has ended. Of
+    /// these the last is one that joined the claim, or wrote nothing that the claim did not have as X.
+    writing: Vec<BTreeSet<usize>>,
     written: Vec<BTreeSet<usize>>,
     pub met: Met,
 }
@@ -61,6 +63,7 @@ impl Watch {
             contents: vec![0; header.sheets()],
             changes: vec![0; header.sheets()],
             readings: (0..MOST_SAVES).map(|_| BTreeMap::new()).collect(),
+            writing: vec![BTreeSet::new(); MOST_SAVES],
             written: vec![BTreeSet::new(); MOST_SAVES],
             met: Met::default(),
         }
@@ -114,16 +117,16 @@ impl Watch {
         match (step.command, step.answer) {
             (Command::Begin { save }, _) | (Command::Decide { save }, Answer::SecondRun) => {
                 self.readings[save].clear();
+                self.writing[save].clear();
             }
             (Command::Read { save, sheet }, Answer::Content(answered)) => {
                 let first = Reading { answered, stored_again: false };
                 self.readings[save].entry(sheet).or_insert(first);
             }
-            (Command::Write { save, sheet, .. }, _)
-                if state.saves[save].phase == Phase::FirstRun =>
-            {
-                self.written[save].insert(sheet);
+            (Command::Write { save, sheet, .. }, _) => {
+                self.writing[save].insert(sheet);
             }
+            (Command::Submit { save }, _) => self.written[save].extend(&self.writing[save]),
             (Command::Apply { node, save }, _) => self.note_apply(state, node, save)?,
             (Command::Take { node }, Answer::Taken { save, verdict }) => {
                 self.note_take(state, node, save, verdict);
@@ -159,11 +162,13 @@ impl Watch {
             Verdict::Valid => None,
             Verdict::Invalid(cause) => Some(cause),
         };
+        let checked = !state.former(state.taken[node]);
         for (&number, reading) in &self.readings[save] {
             // The cause is the first: below its sheet there is none.
             let valid = failed.is_none_or(|cause| number < cause.sheet);
-            let here = state.sheets[number].owner == node;
-            self.met.passed += (here && valid && reading.stored_again) as u64;
+            let here = checked && state.sheets[number].owner == node;
+            let claimed = state.saves[save].claim.contains_key(&number);
+            self.met.passed += (here && claimed && valid && reading.stored_again) as u64;
         }
         let Some(Cause { sheet, rule }) = failed else { return };
         if rule == Rule::CounterBehind {
@@ -174,7 +179,8 @@ impl Watch {
             let only = x.next().filter(|_| x.next().is_none());
             let there = state.sheets[sheet].content;
             let saves_nothing = only.is_some_and(|x| stored(state, x.save, sheet) == Some(there));
-            let behind = state.saves[save].copies[&sheet].wct_seen < state.sheets[sheet].wct;
+            let copy = state.saves[save].copies.get(&sheet);
+            let behind = copy.is_some_and(|copy| copy.wct_seen < state.sheets[sheet].wct);
             self.met.failed_by_x += (saves_nothing && !behind) as u64;
         }
     }
