@@ -184,6 +184,45 @@ static void make_all_sheets(struct session *s)
     }
 }
 
+/* The saves stand in one queue, each with an X that fails the others. The first of them opens a sheet, or writes one that is only S,
+   and goes to the end, where it fails again; then it is the next one's turn. It ends with the session's bytes, or when all of them
+   have an X on every sheet. */
+static void turns_of(struct session *s, const char *name, int nodes, int saves)
+{
+    int first = saves, turn = 2 + 3 + 7 + 2 + 2 * nodes;
+    header(s, name, nodes, MOST_SHEETS);
+    for (int i = 0; i <= saves; i++) {
+        int t = i ? i - 1 : first;
+        on_save(s, 1, t);
+        read_sheet(s, t, 0);
+        write_sheet(s, t, 0, (uint32_t)t);
+    }
+    for (int i = 0; i <= saves; i++) {
+        on_save(s, 4, i ? i - 1 : first);
+        nodes_take(s, nodes);
+    }
+    on_save(s, 6, first);
+    COMMAND(s, 7, 0, (uint8_t)first);
+    for (int round = 1; round < 2 * MOST_SHEETS - 1; round++)
+        for (int t = 0; t < saves; t++) {
+            if (MOST_BYTES - s->length < (size_t)turn)
+                return;
+            on_save(s, 6, t);
+            int writes = round >= MOST_SHEETS, k = writes ? round - MOST_SHEETS + 1 : round;
+            read_sheet(s, t, k);
+            if (writes)
+                write_sheet(s, t, k, (uint32_t)(t * 1000003 + k));
+            on_save(s, 4, t);
+            nodes_take(s, nodes);
+        }
+}
+
+static void make_turns_of_two(struct session *s) { turns_of(s, "a sheet in each run", MOST_NODES, 2); }
+
+static void make_turns(struct session *s) { turns_of(s, "32 saves in turns", MOST_NODES, SAVES - 1); }
+
+static void make_turns_at_one(struct session *s) { turns_of(s, ".., at one node", 1, SAVES - 1); }
+
 static void make_w(struct session *s)
 {
     static const uint8_t w[58] = {
@@ -342,8 +381,8 @@ static void sessions(int turns)
 {
     static struct session s;
     static void (*const make[])(struct session *) = {
-        make_own,       make_serial_long, make_conflict_long, make_serial, make_conflict,
-        make_one_sheet, make_all_sheets,  make_w,             make_empty,
+        make_own,        make_serial_long,  make_conflict_long, make_serial,       make_conflict, make_one_sheet,
+        make_all_sheets, make_turns_of_two, make_turns,         make_turns_at_one, make_w,        make_empty,
     };
     title("session");
     for (size_t i = 0; i < sizeof make / sizeof *make; i++) {

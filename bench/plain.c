@@ -12,8 +12,8 @@
 
 enum { MOST_NODES = 8, MOST_SHEETS = 64, MOST_SAVES = 32, MOST_BYTES = 16384, LEAST_BUFFER = 4096 };
 
-/* A place takes a SUBMIT of two bytes. */
-enum { MOST_PLACES = MOST_BYTES / 2 };
+/* Each place of a save but its first takes a DECIDE, a READ and a SUBMIT: seven bytes. */
+enum { MOST_PLACES = MOST_SAVES + MOST_BYTES / 7 };
 
 enum { UNUSED, FIRST_RUN, SECOND_RUN, SUBMITTED, COMMITTED, DROPPED };
 
@@ -33,7 +33,7 @@ struct save {
 
 struct state {
     uint32_t nodes, sheets;
-    uint32_t places;            /* of the order, former ones too */
+    uint32_t places, former;    /* of the order; those of them that are not their save's last */
     uint32_t placed;            /* the saves with a place */
     uint32_t accepted, first_commits, second_commits;
     uint64_t owned[MOST_NODES]; /* the sheets of each node */
@@ -82,7 +82,7 @@ static inline int start(struct state *s, const uint8_t *session, size_t length)
         s->owned[session[2 + k]] |= (uint64_t)1 << k;
     s->nodes = nodes;
     s->sheets = sheets;
-    s->places = s->placed = s->accepted = s->first_commits = s->second_commits = 0;
+    s->places = s->former = s->placed = s->accepted = s->first_commits = s->second_commits = 0;
     memset(s->taken, 0, sizeof s->taken);
     for (int t = 0; t < MOST_SAVES; t++)
         s->save[t].phase = UNUSED;
@@ -156,6 +156,7 @@ static inline void withdraw(struct state *s, uint32_t number_t)
     remove_entries(s, number_t, t->held);
     t->held = 0;
     t->failed = 0;
+    s->former++;
     s->placed &= gone;
     for (int other = 0; other < MOST_SAVES; other++)
         s->before[other] &= gone;
@@ -255,10 +256,11 @@ static inline struct end run(struct state *s, const uint8_t *session, size_t len
             s->taken[n]++;
             uint32_t number_t = s->order[place], here = (uint32_t)1 << number_t;
             struct save *t = &s->save[number_t];
-            kind = VALID, value = number_t;
-            if (t->place != place) /* a former one */
-                break;
             uint64_t ours = t->claim & s->owned[n], met_x = 0, behind = 0;
+            kind = VALID, value = number_t;
+            /* At a former place the node only moves on, as with no sheet here. */
+            if (!ours || t->place != place)
+                break;
             t->held |= ours;
             for (uint64_t left = ours; left; left &= left - 1) {
                 uint32_t k = (uint32_t)__builtin_ctzll(left);
@@ -300,8 +302,10 @@ static inline struct end run(struct state *s, const uint8_t *session, size_t len
                 kind = SECOND;
             } else {
                 t->phase = COMMITTED;
-                s->first_commits += t->runs == 1;
-                s->second_commits += t->runs > 1;
+                if (t->runs == 1)
+                    s->first_commits++;
+                else
+                    s->second_commits++;
                 kind = DECIDED;
             }
             value = 0;
@@ -384,22 +388,17 @@ static inline uint8_t *put_field(uint8_t *to, uint32_t number)
     return put_number(to, number);
 }
 
-/* The saves with a place, by last place; says how many. A long order is not gone over: as many saves stand before a row as have an
+/* The saves with a place, by last place. The order is them where none is a former place; else as many stand before a save as have an
    earlier last place. */
-static inline uint32_t rows_of(const struct state *s, uint8_t *row)
+static inline const uint8_t *rows_of(const struct state *s, uint8_t *row)
 {
-    uint32_t rows = 0;
-    if (s->places <= MOST_SAVES) {
-        for (uint32_t place = 0; place < s->places; place++)
-            if (s->save[s->order[place]].place == place)
-                row[rows++] = s->order[place];
-        return rows;
-    }
-    for (uint32_t left = s->placed; left; left &= left - 1, rows++) {
+    if (!s->former)
+        return s->order;
+    for (uint32_t left = s->placed; left; left &= left - 1) {
         uint32_t number_t = (uint32_t)__builtin_ctz(left);
         row[__builtin_popcount(s->before[number_t])] = (uint8_t)number_t;
     }
-    return rows;
+    return row;
 }
 
 size_t plain_report(const uint8_t *session, size_t session_len, uint8_t *report, size_t report_len)
@@ -412,9 +411,9 @@ size_t plain_report(const uint8_t *session, size_t session_len, uint8_t *report,
         memcpy(report, "R 0 1\n", 6);
         return 6;
     }
-    uint8_t *to = report, row[MOST_SAVES];
-    const uint32_t rows = rows_of(&s, row);
-    for (uint32_t i = 0; i < rows; i++) {
+    uint8_t *to = report, by_place[MOST_SAVES];
+    const uint8_t *row = rows_of(&s, by_place);
+    for (uint32_t i = 0; i < s.places - s.former; i++) {
         const struct save *t = &s.save[row[i]];
         *to++ = 'P';
         to = put_field(to, row[i]);

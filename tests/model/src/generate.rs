@@ -229,7 +229,14 @@ fn turn(prng: &mut Prng, plan: &Plan, engine: &Engine) -> Vec<Command> {
     if engine.saves[save].phase != Phase::SecondRun {
         return Vec::new();
     }
-    let mut steps = touch(prng, plan, engine, save);
+    let mut steps = Vec::new();
+    if prng.one_in(3) {
+        // A node that lags may pass former places of a save that runs.
+        let node = prng.below(plan.header.nodes);
+        let behind = engine.order.len() - engine.taken[node];
+        steps.extend(vec![Command::Take { node }; prng.below(behind + 1)]);
+    }
+    steps.extend(touch(prng, plan, engine, save));
     let given_up = prng.one_in(24);
     steps.push(if given_up { Command::GiveUp { save } } else { Command::Submit { save } });
     let mut nodes: Vec<usize> = (0..plan.header.nodes).collect();

@@ -36,8 +36,8 @@ impl Prng {
     }
 
     pub fn fill(&mut self, bytes: &mut [u8]) {
-        for byte in bytes {
-            *byte = self.draw() as u8;
+        for part in bytes.chunks_mut(8) {
+            part.copy_from_slice(&self.draw().to_le_bytes()[..part.len()]);
         }
     }
 
