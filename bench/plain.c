@@ -302,10 +302,8 @@ static inline struct end run(struct state *s, const uint8_t *session, size_t len
                 kind = SECOND;
             } else {
                 t->phase = COMMITTED;
-                if (t->runs == 1)
-                    s->first_commits++;
-                else
-                    s->second_commits++;
+                s->first_commits += t->runs == 1;
+                s->second_commits += t->runs > 1;
                 kind = DECIDED;
             }
             value = 0;

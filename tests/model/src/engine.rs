@@ -385,8 +385,8 @@ impl Engine {
             if sheet.owner != node {
                 continue;
             }
-            if let (Verdict::Valid, Some(rule)) = (verdict, sheet.fails(taken.copies.get(&number)))
-            {
+            let fails = sheet.fails(taken.copies.get(&number));
+            if let (Verdict::Valid, Some(rule)) = (verdict, fails) {
                 verdict = Verdict::Invalid(Cause { sheet: number, rule });
             }
             sheet.queue.push(Entry { save, lock });

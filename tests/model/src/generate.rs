@@ -15,8 +15,7 @@ pub struct Input {
 
 pub fn input(prng: &mut Prng) -> Input {
     let session = if prng.one_in(IN_TURNS) {
-        let (header, saves, length) = turns_plan(prng);
-        turns(prng, header, saves, length)
+        any_turns(prng)
     } else if prng.one_in(4) {
         damaged(prng)
     } else {
@@ -84,7 +83,7 @@ const MOODS: [[usize; 8]; 6] = [
 const WHOLE: usize = 32;
 
 /// One session in so many is of saves that do nothing but open sheets in turns.
-const IN_TURNS: usize = 400;
+const IN_TURNS: usize = 300;
 
 /// Without turns a save has few runs, so only READs and WRITEs can fill a long session.
 const LONG: [usize; 8] = [3, 400, 300, 4, 24, 14, 14, 1];
@@ -114,7 +113,7 @@ fn sizes(prng: &mut Prng) -> Sizes {
 /// Few saves, so that each of them has many turns, and sheets enough to open.
 fn sizes_with_turns(prng: &mut Prng) -> Sizes {
     match prng.below(8) {
-        0..=3 => (prng.between(1, 3), prng.between(2, 6), prng.between(3, 5), 600),
+        0..=3 => (prng.between(1, 3), prng.between(2, 6), prng.between(2, 5), 600),
         4..=6 => (prng.between(1, 4), prng.between(3, 12), prng.between(3, 8), 1_600),
         _ => {
             (prng.between(1, MOST_NODES), prng.between(8, MOST_SHEETS), prng.between(3, 12), 2_500)
@@ -127,11 +126,16 @@ fn plan(prng: &mut Prng) -> Plan {
     let (nodes, sheets, saves, length) =
         if in_turns { sizes_with_turns(prng) } else { sizes(prng) };
     let long = length == MOST_BYTES;
-    let length = if long { length } else { prng.between(length / 8, length) };
+    let least = if in_turns { length / 3 } else { length / 8 };
+    let length = if long { length } else { prng.between(least, length) };
     let wanted = if prng.one_in(2) {
         // The numbers that need a history are wanted more often than the others.
         let number = prng.pick(&[2, 3, 4, 5, 5, 5, 6, 6, 7, 7, 9, 10, 10, 11, 13, 14, 14]);
-        Some((number, prng.below(length)))
+        // A DECIDE by another place than the last would come too early, and few saves come to such a place.
+        match in_turns && prng.one_in(2) {
+            true => Some((10, prng.below(length) / 8)),
+            false => Some((number, prng.below(length))),
+        }
     } else {
         None
     };
@@ -141,7 +145,7 @@ fn plan(prng: &mut Prng) -> Plan {
         length,
         weights: if long { LONG } else { MOODS[0] },
         moods: !long,
-        turn: if in_turns { prng.between(2, 6) } else { 64 },
+        turn: if in_turns { prng.between(1, 4) } else { 64 },
         keep_refused: prng.pick(&[0, 0, 0, 2_000, 300]),
         wanted,
         second_run: prng.one_in(2),
@@ -163,7 +167,7 @@ pub fn guided(prng: &mut Prng) -> Vec<u8> {
     let mut plan = plan(prng);
     let mut engine = Engine::new(&plan.header);
     let mut session = plan.header.bytes();
-    let mut whole = Vec::new();
+    let mut whole = if plan.in_turns() { opening(prng, &plan) } else { Vec::new() };
     let mut in_vain = 0;
     while session.len() < plan.length && in_vain < 400 {
         if plan.moods && prng.one_in(24) {
@@ -221,6 +225,41 @@ fn whole_save(prng: &mut Prng, plan: &Plan, engine: &Engine) -> Vec<Command> {
     steps
 }
 
+/// How a session in turns begins, the last step first: some saves meet at sheet 0, where the first of them
+/// commits and is carried out, and the others fail. The last one may stand aside, before the others in the
+/// order, with an X on another sheet that it saves nothing to: its X goes, and the counter stays.
+fn opening(prng: &mut Prng, plan: &Plan) -> Vec<Command> {
+    // Of two or three saves one is soon alone, so that it can be valid in the end.
+    let any = prng.between(2, plan.saves);
+    let saves = prng.pick(&[2, 3, any]).min(plan.saves);
+    let aside = (saves > 2 && plan.header.sheets() > 1 && !prng.one_in(3)).then_some(saves - 1);
+    let mut steps: Vec<Command> = (0..saves).map(|save| Command::Begin { save }).collect();
+    for save in 0..saves {
+        let other = prng.below(plan.header.sheets());
+        let sheet = if aside == Some(save) { other.max(1) } else { 0 };
+        let content = if aside == Some(save) { 0 } else { content(prng) };
+        steps.push(Command::Read { save, sheet });
+        if save == 0 || aside == Some(save) || !prng.one_in(4) {
+            steps.push(Command::Write { save, sheet, content });
+        }
+        if prng.one_in(3) {
+            steps.push(Command::Read { save, sheet: other });
+        }
+    }
+    let order = aside.into_iter().chain((0..saves).filter(|&save| aside != Some(save)));
+    steps.extend(order.map(|save| Command::Submit { save }));
+    for node in 0..plan.header.nodes {
+        // A node that has nothing to do yet lags more often.
+        let takes = plan.header.owner[0] == node || prng.one_in(3);
+        steps.extend(vec![Command::Take { node }; if takes { saves } else { 1 }]);
+    }
+    steps.push(Command::Decide { save: 0 });
+    steps.extend((0..plan.header.nodes).map(|node| Command::Apply { node, save: 0 }));
+    steps.push(Command::Decide { save: 1 });
+    steps.reverse();
+    steps
+}
+
 /// The steps of a turn, the last one first: a later run opens a sheet, or writes one that is only S, is
 /// submitted again and taken at most of its nodes; then the saves that come to stand first are decided.
 fn turn(prng: &mut Prng, plan: &Plan, engine: &Engine) -> Vec<Command> {
@@ -249,14 +288,24 @@ fn turn(prng: &mut Prng, plan: &Plan, engine: &Engine) -> Vec<Command> {
     let owns =
         |node: usize| (0..plan.header.sheets()).any(|k| plan.header.owner[k] == node && touched(k));
     nodes.retain(|&node| if owns(node) { !prng.one_in(16) } else { prng.one_in(8) });
-    for node in nodes {
+    // Now and then the nodes take the last place only after the others were decided and carried out.
+    let late = prng.one_in(4);
+    for &node in &nodes {
         let behind = engine.order.len() - engine.taken[node];
-        steps.extend(vec![Command::Take { node }; behind + 1]);
+        let last = !late && !prng.one_in(12);
+        steps.extend(vec![Command::Take { node }; behind + last as usize]);
     }
     let mut others: Vec<usize> =
         (0..plan.saves).filter(|&other| engine.saves[other].phase == Phase::Submitted).collect();
     prng.shuffle(&mut others);
-    steps.extend(others.into_iter().chain([save]).map(|save| Command::Decide { save }));
+    steps.extend(others.iter().map(|&save| Command::Decide { save }));
+    if late {
+        for &save in &others {
+            steps.extend((0..plan.header.nodes).map(|node| Command::Apply { node, save }));
+        }
+        steps.extend(nodes.iter().map(|&node| Command::Take { node }));
+    }
+    steps.push(Command::Decide { save });
     steps.reverse();
     steps
 }
@@ -283,8 +332,13 @@ fn touch(prng: &mut Prng, plan: &Plan, engine: &Engine, save: usize) -> Vec<Comm
     }
     let opens = !outside.is_empty() && (shared.is_empty() || !prng.one_in(3));
     if opens {
+        // Another save's X does not hold it.
+        let x_at =
+            |sheet: &usize| engine.sheets[*sheet].queue.iter().any(|entry| entry.lock == Lock::X);
+        let held: Vec<usize> = outside.iter().copied().filter(x_at).collect();
         let written = prng.one_in(4);
-        touched(prng, &outside, written);
+        let sheets = if held.is_empty() || prng.one_in(2) { &outside } else { &held };
+        touched(prng, sheets, written);
     }
     if !shared.is_empty() && (!opens || prng.one_in(6)) {
         touched(prng, &shared, true);
@@ -322,6 +376,7 @@ fn refused_with(prng: &mut Prng, plan: &Plan, engine: &Engine, number: u8) -> Op
             return Some(cut);
         }
         4 => out_of_range(prng, plan),
+        10 if plan.in_turns() && !prng.one_in(4) => decide_too_early(prng, engine)?.bytes(),
         _ => {
             let found = (0..20)
                 .map(|round| {
@@ -346,6 +401,24 @@ fn refused_with(prng: &mut Prng, plan: &Plan, engine: &Engine, number: u8) -> Op
         bytes.extend(any_command(prng, plan).bytes());
     }
     Some(bytes)
+}
+
+/// The DECIDE of a save that is submitted again and not taken by all its nodes: best by some of them, and with
+/// no other save in its queues, so that its entries there are granted.
+fn decide_too_early(prng: &mut Prng, engine: &Engine) -> Option<Command> {
+    let places = |save: usize| engine.order.iter().filter(|&&other| other == save).count();
+    let submitted =
+        |&save: &usize| engine.saves[save].phase == Phase::Submitted && places(save) > 1;
+    let refused = |&save: &usize| engine.refusal(Command::Decide { save }).is_some();
+    let entries = |&save: &usize| {
+        let queues = engine.saves[save].claim.keys().map(|&sheet| &engine.sheets[sheet].queue);
+        let own = queues.clone().any(|queue| queue.iter().any(|entry| entry.save == save));
+        let others = queues.flatten().filter(|entry| entry.save != save).count();
+        (!own, others)
+    };
+    let early = (0..MOST_SAVES).filter(submitted).filter(refused).min_by_key(entries);
+    let good = early.filter(|save| entries(save) == (false, 0) || prng.one_in(64));
+    good.map(|save| Command::Decide { save })
 }
 
 fn out_of_range(prng: &mut Prng, plan: &Plan) -> Vec<u8> {
@@ -600,18 +673,24 @@ pub fn full(prng: &mut Prng) -> Vec<u8> {
     session
 }
 
-/// Many sheets at few nodes: a save then has up to 128 places, or the order up to 1,800.
-fn turns_plan(prng: &mut Prng) -> (Header, usize, usize) {
-    let nodes = prng.pick(&[1, 1, 2, 3, MOST_NODES]);
+/// Turns on many sheets at few nodes, some of which own nothing: a save then has up to 128 places, the order
+/// up to 1,500.
+fn any_turns(prng: &mut Prng) -> Vec<u8> {
+    let nodes = prng.pick(&[1, 2, 3, MOST_NODES]);
+    let idle = if prng.one_in(2) { 1.min(nodes - 1) } else { 0 };
     let sheets = prng.pick(&[MOST_SHEETS, MOST_SHEETS, 56]);
-    let saves = prng.pick(&[2, 2, 3, 8, MOST_SAVES - 1]);
-    (header(prng, nodes, sheets), saves, prng.between(8_000, MOST_BYTES))
+    let owners = Header { nodes, ..header(prng, nodes - idle, sheets) };
+    let saves = prng.pick(&[2, 3, 8, MOST_SAVES - 1]);
+    let length = prng.between(8_000, MOST_BYTES);
+    let rest = if prng.one_in(2) { prng.below(length / 4) } else { 0 };
+    turns(prng, owners, saves, length, rest)
 }
 
 /// So many saves hold an X on sheet 0 and stand in its queue, where one before them has failed them all. The
 /// first of them opens a sheet, or writes one that is only S, and goes to the end, where the X of the others
-/// fails it again; then it is the next one's turn. A save whose claim is whole commits.
-pub fn turns(prng: &mut Prng, header: Header, saves: usize, length: usize) -> Vec<u8> {
+/// fails it again; then it is the next one's turn. A save whose claim is whole commits. In the rest of the
+/// session all nodes catch up.
+pub fn turns(prng: &mut Prng, header: Header, saves: usize, length: usize, rest: usize) -> Vec<u8> {
     let mut line = Line::new(header, length);
     let nodes = line.header.nodes;
     let first = saves;
@@ -630,7 +709,7 @@ pub fn turns(prng: &mut Prng, header: Header, saves: usize, length: usize) -> Ve
     line.put(Command::Decide { save: first });
     (0..nodes).for_each(|node| line.put(Command::Apply { node, save: first }));
     let mut waiting: VecDeque<usize> = (0..saves).collect();
-    while let Some(save) = waiting.pop_front().filter(|_| !line.full()) {
+    while let Some(save) = waiting.pop_front().filter(|_| line.room() > rest.max(16)) {
         // Nodes that own nothing of the claim may lag behind.
         let mut concerned: Vec<usize> =
             line.engine.saves[save].claim.keys().map(|&sheet| line.header.owner[sheet]).collect();
@@ -649,6 +728,9 @@ pub fn turns(prng: &mut Prng, header: Header, saves: usize, length: usize) -> Ve
             (0..nodes).for_each(|node| line.put(Command::Apply { node, save }));
         }
     }
+    if rest > 0 {
+        (0..nodes).for_each(|node| line.catch_up(node));
+    }
     line.session
 }
 
@@ -666,8 +748,8 @@ impl Line {
         Line { header, engine, session, length }
     }
 
-    fn full(&self) -> bool {
-        self.length - self.session.len() < 16
+    fn room(&self) -> usize {
+        self.length - self.session.len()
     }
 
     fn catch_up(&mut self, node: usize) {
@@ -678,7 +760,7 @@ impl Line {
 
     fn put(&mut self, command: Command) {
         let bytes = command.bytes();
-        if self.session.len() + bytes.len() <= self.length && self.engine.step(command).is_ok() {
+        if bytes.len() <= self.room() && self.engine.step(command).is_ok() {
             self.session.extend(bytes);
         }
     }
