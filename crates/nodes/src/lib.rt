@@ -9,6 +9,7 @@ ghost use Rattle.rules.specs.Bytes.{Take, Apply};
 ghost use Rattle.state.specs.Parts.{bytes, hints, STANDING, LINE, MET};
 ghost use Rattle.state.specs.Ready.{Ready, Rising, Gone, Trimmed, Hints, Table};
 ghost use Rattle.state.specs.Lent.{own, taking, applying, Moves, Keeps};
+ghost use Rattle.state.specs.declared.Answer.the-variants.{Took};
 ghost use Rattle.nodes.specs.Next.{NextLast};
 ghost use Rattle.nodes.specs.Carry.{Applied, Counts};
 use state::Answer;
@@ -17,7 +18,7 @@ use state::Session;
 use state::Verdict;
 use state::WRITTEN;
 
-// Node n takes save t at its last place, which is the node's next.
+// Node n takes save t at its last place, which is the node's next: what it finds it.
 fn take_last(
     b: &mut [u8],
     listed: &[u16],
@@ -26,9 +27,9 @@ fn take_last(
     m: usize,
     n: u8,
     t: u8,
-) -> Answer
+) -> Verdict
     requires { ⌜ Ready m (bytes m (now b)) × Hints m (bytes m (now b)) (hints m (now listed)) × Table 32 m (now seen) × Table 2 m (now w) × NextLast (bytes m (now b)) n t ⌝ }
-    ensures { λ r. ⌜ Moves m (taking (now (b .entry)) (now (seen .entry)) (now (w .entry))) (Take n) (taking (now (b .exit)) (now (seen .entry)) (now (w .entry))) r ⌝ }
+    ensures { λ r. ⌜ Moves m (taking (now (b .entry)) (now (seen .entry)) (now (w .entry))) (Take n) (taking (now (b .exit)) (now (seen .entry)) (now (w .entry))) (Took t r) ⌝ }
     ensures kept { λ _. ⌜ Keeps m (own (now (b .entry))) (own (now (b .exit))) ⌝ }
 {
     let ni = n as usize;
@@ -36,17 +37,17 @@ fn take_last(
     if !h {
         // With no sheet here, only the node's place in the order and in the line moves.
         state::move_on(b, m, ni);
-        return Answer::Took(t, Verdict::Valid);
+        return Verdict::Valid;
     }
     let v = sheets::finding(b, listed, seen, w, m, n, t);
     let ti = t as usize;
     state::set_standing(b, m, ni, ti, 1);
     state::move_on(b, m, ni);
     match v {
-        Verdict::Valid => Answer::Took(t, Verdict::Valid),
+        Verdict::Valid => Verdict::Valid,
         Verdict::Invalid(cause) => {
             state::set_failed(b, m, ti, 1);
-            Answer::Took(t, Verdict::Invalid(cause))
+            Verdict::Invalid(cause)
         }
     }
 }
@@ -73,7 +74,8 @@ pub fn take(b: &mut [u8], listed: &[u16], seen: &[u32], w: &[u32], m: usize, n: 
         state::pass(b, m, ni);
         return Answer::Took(t, Verdict::Valid);
     }
-    take_last(b, listed, seen, w, m, n, t)
+    let v = take_last(b, listed, seen, w, m, n, t);
+    Answer::Took(t, v)
 }
 
 // A sheet of owner o receives the content at node n: the save's phase is p, and x says whether it wrote the sheet. All three tests are made,
