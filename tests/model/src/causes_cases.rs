@@ -258,7 +258,7 @@ fn the_check_sees_a_wrong_cause_and_a_wrong_verdict() {
 fn causes_on_many_sessions() {
     let mut prng = Prng::new(3);
     let mut met = BTreeSet::new();
-    for _ in 0..1_000 {
+    for _ in 0..2_000 {
         let session = generate::input(&mut prng).session;
         for causes in check(&session, &Session::run(&session)).expect("causes") {
             // By its rule, and by a rule that stands on the same sheet or on a higher one.

@@ -4,7 +4,7 @@
 use crate::command::{Command, Header, MOST_BYTES, MOST_NODES, MOST_SAVES, MOST_SHEETS};
 use crate::engine::{Engine, Lock, Phase, Save};
 use crate::prng::Prng;
-use std::collections::VecDeque;
+use std::collections::{BTreeSet, VecDeque};
 
 /// One fuzz input: a session, and the report buffer as it stands before the call.
 #[derive(Clone, Debug)]
@@ -264,30 +264,14 @@ fn opening(prng: &mut Prng, plan: &Plan) -> Vec<Command> {
 /// submitted again and taken at most of its nodes; then the saves that come to stand first are decided.
 fn turn(prng: &mut Prng, plan: &Plan, engine: &Engine) -> Vec<Command> {
     let save = save_in(prng, plan, engine, &[Phase::SecondRun]);
-    let claim = &engine.saves[save].claim;
     if engine.saves[save].phase != Phase::SecondRun {
         return Vec::new();
     }
-    let mut steps = Vec::new();
-    if prng.one_in(3) {
-        // A node that lags may pass former places of a save that runs.
-        let node = prng.below(plan.header.nodes);
-        let behind = engine.order.len() - engine.taken[node];
-        steps.extend(vec![Command::Take { node }; prng.below(behind + 1)]);
-    }
+    let mut steps = some_takes(prng, plan, engine);
     steps.extend(touch(prng, plan, engine, save));
     let given_up = prng.one_in(24);
     steps.push(if given_up { Command::GiveUp { save } } else { Command::Submit { save } });
-    let mut nodes: Vec<usize> = (0..plan.header.nodes).collect();
-    prng.shuffle(&mut nodes);
-    let touched = |sheet: usize| {
-        let reads =
-            |step: &Command| matches!(step, Command::Read { sheet: read, .. } if *read == sheet);
-        claim.contains_key(&sheet) || steps.iter().any(reads)
-    };
-    let owns =
-        |node: usize| (0..plan.header.sheets()).any(|k| plan.header.owner[k] == node && touched(k));
-    nodes.retain(|&node| if owns(node) { !prng.one_in(16) } else { prng.one_in(8) });
+    let nodes = concerned(prng, plan, engine, save, &steps);
     // Now and then the nodes take the last place only after the others were decided and carried out.
     let late = prng.one_in(4);
     for &node in &nodes {
@@ -308,6 +292,37 @@ fn turn(prng: &mut Prng, plan: &Plan, engine: &Engine) -> Vec<Command> {
     steps.push(Command::Decide { save });
     steps.reverse();
     steps
+}
+
+/// Now and then a node that lags passes former places of a save that runs.
+fn some_takes(prng: &mut Prng, plan: &Plan, engine: &Engine) -> Vec<Command> {
+    if !prng.one_in(3) {
+        return Vec::new();
+    }
+    let node = prng.below(plan.header.nodes);
+    let behind = engine.order.len() - engine.taken[node];
+    vec![Command::Take { node }; prng.below(behind + 1)]
+}
+
+/// Most of the nodes that own a sheet of the save's claim or one that these steps read, and a few others.
+fn concerned(
+    prng: &mut Prng,
+    plan: &Plan,
+    engine: &Engine,
+    save: usize,
+    steps: &[Command],
+) -> Vec<usize> {
+    let read = |step: &Command| match *step {
+        Command::Read { sheet, .. } => Some(sheet),
+        _ => None,
+    };
+    let claimed = engine.saves[save].claim.keys().copied();
+    let sheets = claimed.chain(steps.iter().filter_map(read));
+    let owners: BTreeSet<usize> = sheets.map(|sheet| plan.header.owner[sheet]).collect();
+    let mut nodes: Vec<usize> = (0..plan.header.nodes).collect();
+    prng.shuffle(&mut nodes);
+    nodes.retain(|node| if owners.contains(node) { !prng.one_in(16) } else { prng.one_in(8) });
+    nodes
 }
 
 /// READs and WRITEs that make the save's later run wide, if its claim is not whole.
@@ -711,11 +726,9 @@ pub fn turns(prng: &mut Prng, header: Header, saves: usize, length: usize, rest:
     let mut waiting: VecDeque<usize> = (0..saves).collect();
     while let Some(save) = waiting.pop_front().filter(|_| line.room() > rest.max(16)) {
         // Nodes that own nothing of the claim may lag behind.
-        let mut concerned: Vec<usize> =
-            line.engine.saves[save].claim.keys().map(|&sheet| line.header.owner[sheet]).collect();
-        concerned.sort();
-        concerned.dedup();
-        concerned.into_iter().for_each(|node| line.catch_up(node));
+        let claimed = line.engine.saves[save].claim.keys();
+        let owners: BTreeSet<usize> = claimed.map(|&sheet| line.header.owner[sheet]).collect();
+        owners.into_iter().for_each(|node| line.catch_up(node));
         line.put(Command::Decide { save });
         if line.engine.saves[save].phase == Phase::SecondRun {
             line.open(prng, save);
