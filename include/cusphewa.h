@@ -58,7 +58,7 @@ enum {
     CUSPHEWA_WRONG_PHASE = 5,       /* a save begun and not over, whose phase does not allow the command */
     CUSPHEWA_SHEET_HELD = 6,        /* first-run READ: an X is at the front of the sheet's queue */
     CUSPHEWA_NO_COPY = 7,           /* WRITE without a copy from this run */
-    CUSPHEWA_OUTSIDE_CLAIM = 8,     /* second run: READ outside the claim, or WRITE where it is not X */
+    CUSPHEWA_OUTSIDE_CLAIM = 8,     /* never occurs any more: a later run may open another sheet */
     CUSPHEWA_NOTHING_TO_TAKE = 9,   /* TAKE: the node has taken every submitted save */
     CUSPHEWA_UNDECIDED = 10,        /* DECIDE: a concerned node has not taken the save, or an entry waits */
     CUSPHEWA_NO_ENTRY = 11,         /* APPLY: the save has no entry at the node */
