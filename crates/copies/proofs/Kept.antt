@@ -21,7 +21,7 @@ marked : {m : ℕ} {d : Parts} (i v : ℕ) → Shaped m d → Shaped m (store d 
 marked i v s = record { whole = whole-store (s .whole) MARK i v; fits = s .fits }
 
 marked-hints : {m : ℕ} {d h : Parts} (i v : ℕ) → Hints m d h → Hints m (store d MARK i v) h
-marked-hints i v k = record { whole = k .whole; trimmed = k .trimmed; lined = k .lined; listed = k .listed }
+marked-hints i v k = record { whole = k .whole; trimmed = k .trimmed; lined = k .lined; listed = k .listed; capped = k .capped }
 
 -- a mark and a content are stored
 module _ (m : ℕ) (b b′ value value′ : List ℕ) (i c v : ℕ) (e : bytes m b′ ≡ store (bytes m b) MARK i c) (ev : value′ ≡ set value i v) where

@@ -109,6 +109,7 @@ module _ {m : ℕ} {d : Parts} (ready : Ready m d) (n : ℕ) (ln : n < nodes d) 
                   (λ z. rw (word-other (d TAKEN) n (p + 1) o z) (k .lined .met o));
             };
             listed = k .listed;
+            capped = k .capped;
           };
         }
 
@@ -192,10 +193,10 @@ module _ {m : ℕ} {d : Parts} (ready : Ready m d) {n t : ℕ} (at-last : NextLa
           (λ tally. rw (la, nx, ev))
 
     -- the code's ends: t has no sheet here, or gets its byte and is found invalid or valid
-    pub moves-none : {e : Bool} → e ≡ any m (λ k. eqb (getD (d OWNER) k 0) n && claims (claim-in m (d CLAIM) t k)) → e ≡ false
+    pub moves-none : any m (λ k. eqb (getD (d OWNER) k 0) n && claims (claim-in m (d CLAIM) t k)) ≡ false
         → (seen w value : List ℕ) → Steps (view m d value seen w) (Take n) (view m (moving-on d n) value seen w) (Took t Valid)
-    moves-none ec z seen w value =
-        let empty = here m (d OWNER) (d CLAIM) n t (sym ec ∙ z) in
+    moves-none z seen w value =
+        let empty = here m (d OWNER) (d CLAIM) n t z in
         let s = view m d [] seen w no-tally in
         let e : rules.valid ≡ rules.verdict (first-cause s n t) = rw (first-none m (cause-at s n t) (λ k l. same? (getD (d OWNER) k 0) n
         (λ o. bool (claims (claim-in m (d CLAIM) t k)) (λ c. absurd (empty k o c)) (λ c. rw (c, and-false (eqb (getD (d OWNER) k 0) n))))
@@ -259,19 +260,19 @@ module _ {m : ℕ} {d : Parts} (ready : Ready m d) {n t : ℕ} (at-last : NextLa
   pub holds-moved : Holds m d (moving-on d n)
   holds-moved = record {
     shaped = record { whole = moved-whole d (ready .shaped .whole); fits = ready .shaped .fits };
-    hints = λ h k. record { whole = k .whole; trimmed = trimmed-moved (k .trimmed) (k .lined); lined = lined-moved (k .trimmed) (k .lined); listed = k .listed };
+    hints = λ h k. record { whole = k .whole; trimmed = trimmed-moved (k .trimmed) (k .lined); lined = lined-moved (k .trimmed) (k .lined); listed = k .listed; capped = k .capped };
   }
 
   pub holds-valid : Holds m d (taken-in d n t)
   holds-valid = record {
     shaped = record { whole = moved-whole (store d STANDING (n * 32 + t) 1) standing-whole; fits = ready .shaped .fits };
-    hints = λ h k. record { whole = k .whole; trimmed = trimmed-taken (k .trimmed) (k .lined); lined = lined-moved (k .trimmed) (k .lined); listed = k .listed };
+    hints = λ h k. record { whole = k .whole; trimmed = trimmed-taken (k .trimmed) (k .lined); lined = lined-moved (k .trimmed) (k .lined); listed = k .listed; capped = k .capped };
   }
 
   pub holds-invalid : Holds m d (store (taken-in d n t) FAILED t 1)
   holds-invalid = record {
     shaped = record { whole = whole-store (moved-whole (store d STANDING (n * 32 + t) 1) standing-whole) FAILED t 1; fits = ready .shaped .fits };
-    hints = λ h k. record { whole = k .whole; trimmed = trimmed-taken (k .trimmed) (k .lined); lined = lined-moved (k .trimmed) (k .lined); listed = k .listed };
+    hints = λ h k. record { whole = k .whole; trimmed = trimmed-taken (k .trimmed) (k .lined); lined = lined-moved (k .trimmed) (k .lined); listed = k .listed; capped = k .capped };
   }
 
   -- ---- What the code's calls ask, and what its changes come to

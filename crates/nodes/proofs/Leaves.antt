@@ -124,5 +124,6 @@ module _ {m : ℕ} {d : Parts} (ready : Ready m d) (n t : ℕ) (ln : n < nodes d
           };
           lined = k .lined;
           listed = k .listed;
+          capped = k .capped;
         };
       }

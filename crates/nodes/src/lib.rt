@@ -33,14 +33,15 @@ fn take_last(
     ensures kept { λ _. ⌜ Keeps m (own (now (b .entry))) (own (now (b .exit))) ⌝ }
 {
     let ni = n as usize;
-    let h = sheets::claims_here(b, listed, m, n, t);
-    if !h {
+    let ti = t as usize;
+    let i = sheets::first_here(b, listed, m, n, t);
+    let all = state::many(listed, m, ti) as usize;
+    if all <= i {
         // With no sheet here, only the node's place in the order and in the line moves.
         state::move_on(b, m, ni);
         return Verdict::Valid;
     }
-    let v = sheets::finding(b, listed, seen, w, m, n, t);
-    let ti = t as usize;
+    let v = sheets::finding(b, listed, seen, w, m, n, t, i);
     state::set_standing(b, m, ni, ti, 1);
     state::move_on(b, m, ni);
     match v {

@@ -8,13 +8,13 @@ use native.Mathlib.Numerals.{add-one}
 use native.Mathlib.Nat.{le-refl, add-zero, zero-add, sub-zero}
 use lib.ListN.{getD}
 use lib.Dec.{leb, eqb}
-use borrow.Author.Tests.{ne-eqb, le-leb}
+use borrow.Author.Tests.{ne-eqb, le-leb, lt-leb}
 use Rattle.rules.specs.State.{at}
 use Rattle.rules.specs.Steps.{holds, before, empty, at-front, x-on, granted-as}
 use Rattle.rules.proofs.Table.{bool}
-use Rattle.state.specs.Parts.{Parts, CLAIM, STANDING, OWNER, LINE, MET}
+use Rattle.state.specs.Parts.{Parts, CLAIM, EVER, STANDING, OWNER, LINE, MET}
 use Rattle.state.specs.View.{set?, as-claim, flat, claim-in, entered, waiting, queue-in}
-use Rattle.state.specs.Ready.{Ready, Trimmed}
+use Rattle.state.specs.Ready.{Ready, Trimmed, Capped}
 use Rattle.state.proofs.Codes.{claims-code, is-x-code}
 use Rattle.state.proofs.Stores.{flat-in}
 use Rattle.queues.specs.Walk.{halts, stop, walked, least-of}
@@ -107,6 +107,11 @@ module _ (a : ℕ → ℕ) (f : ℕ → Bool) where
       (λ r. rw (e, z, r) ih)))
       (λ e. rw e ih)
 
+-- where no save passes, none of a list does
+holds-none : (x : ℕ → Bool) → ((u : ℕ) → x u ≡ false) → (l : List ℕ) → holds x l ≡ false
+holds-none x e [] = refl
+holds-none x e (u ∷ l) = rw (e u) (holds-none x e l)
+
 empty-none : (l : List ℕ) → empty l ≡ not (holds (λ u. true) l)
 empty-none [] = refl
 empty-none (u ∷ l) = refl
@@ -195,3 +200,20 @@ module _ {m : ℕ} {d : Parts} (ready : Ready m d) (trimmed : Trimmed d) {k : �
   pub queue-granted : (t : ℕ) {c l u : ℕ} → c ≡ getD (d CLAIM) (t * m + k) 0 → l ≡ least-of c → u ≡ walked m d k t l
       → granted-as (claim-in m (d CLAIM) t k) x (before t queue) ≡ (eqb c 0 || (eqb u 32 || eqb u t))
   queue-granted t ec el eu = rw (eu, el, ec, flat-in m (d CLAIM) t k km) (granted-code t (getD (d CLAIM) (t * m + k) 0))
+
+  -- ---- A sheet that no save ever claimed an X on
+
+  module _ (capped : Capped m d) {e : ℕ} (ee : e ≡ getD (d EVER) k 0) (calm : e < 2) where
+    no-x : (u : ℕ) → x u ≡ false
+    no-x u = x-code u ∙ lt-leb 2 (flat m (d CLAIM) u k) (omega (arith, capped u k, ee))
+
+    pub calm-holds : holds x queue ≡ false
+    calm-holds = holds-none x no-x queue
+
+    pub calm-granted : (t : ℕ) → granted-as (claim-in m (d CLAIM) t k) x (before t queue) ≡ true
+    calm-granted t = by-claim (flat m (d CLAIM) t k) (omega (arith, capped t k, ee))
+      where
+        by-claim : (c : ℕ) → c < 2 → granted-as (as-claim c) x (before t queue) ≡ true
+        by-claim zero l = refl
+        by-claim (suc zero) l = rw (holds-none x no-x (before t queue))
+        by-claim (suc (suc c)) l = absurd (omega arith)

@@ -5,7 +5,7 @@ ghost use Prim.Native.Nat.{_<_};
 ghost use mathlib.Core.Path.{_≡_};
 ghost use Rattle.rules.specs.Steps.{holds, at-front, x-on, granted};
 ghost use Rattle.state.specs.Parts.{bytes};
-ghost use Rattle.state.specs.Ready.{Ready, Trimmed};
+ghost use Rattle.state.specs.Ready.{Ready, Trimmed, Capped};
 ghost use Rattle.state.specs.Lent.{own, seen-by};
 ghost use Rattle.queues.specs.Walk.{halt-of, walked, least-of};
 use state::EXCLUSIVE;
@@ -54,11 +54,15 @@ fn first(b: &[u8], m: usize, k: usize, t: u8, least: u8) -> u8
     NO_SAVE
 }
 
-// The queue of sheet k holds an X.
+// The queue of sheet k holds an X. Where no save ever claimed one, no walk is needed.
 pub fn holds_x(b: &[u8], m: usize, k: usize) -> bool
-    requires { ⌜ Ready m (bytes m (now b)) × Trimmed (bytes m (now b)) × (k < m) ⌝ }
+    requires { ⌜ Ready m (bytes m (now b)) × Trimmed (bytes m (now b)) × Capped m (bytes m (now b)) × (k < m) ⌝ }
     ensures { λ r. ⌜ r ≡ holds (x-on (seen-by m (own (now (b .entry))) .claim) k) (seen-by m (own (now (b .entry))) .queue k) ⌝ }
 {
+    let e = state::ever(b, m, k);
+    if e < EXCLUSIVE {
+        return false;
+    }
     let u = first(b, m, k, NO_SAVE, EXCLUSIVE);
     u != NO_SAVE
 }
@@ -86,13 +90,17 @@ fn least(c: u8) -> u8
     EXCLUSIVE
 }
 
-// Save t's entry at sheet k is granted, or t claims nothing there.
+// Save t's entry at sheet k is granted, or t claims nothing there. Where no save ever claimed an X, every S is granted.
 pub fn granted_at(b: &[u8], m: usize, k: usize, t: u8) -> bool
-    requires { ⌜ Ready m (bytes m (now b)) × Trimmed (bytes m (now b)) × (k < m) × (t < 32) ⌝ }
+    requires { ⌜ Ready m (bytes m (now b)) × Trimmed (bytes m (now b)) × Capped m (bytes m (now b)) × (k < m) × (t < 32) ⌝ }
     ensures { λ r. ⌜ r ≡ granted (seen-by m (own (now (b .entry)))) t k ⌝ }
 {
     let c = state::claim(b, m, t as usize, k);
     if c == UNCLAIMED {
+        return true;
+    }
+    let e = state::ever(b, m, k);
+    if e < EXCLUSIVE {
         return true;
     }
     let l = least(c);

@@ -109,5 +109,5 @@ module _ {m : ℕ} {d : Parts} (ready : Ready m d) (t : ℕ) (t32 : t < 32) {p :
           whole = whole-put (holds-entering ready t 3 .shaped .whole) MARK (fill (λ j. 0) (t * m) m (d MARK)) (rw length-fill (ready .shaped .whole .all MARK));
           fits = ready .shaped .fits;
         };
-        hints = λ h k. record { whole = k .whole; trimmed = k .trimmed; lined = k .lined; listed = k .listed };
+        hints = λ h k. record { whole = k .whole; trimmed = k .trimmed; lined = k .lined; listed = k .listed; capped = k .capped };
       }

@@ -5,32 +5,33 @@ use mathlib.Core.Bool.{Bool, true, false, _&&_, cond, true≢false}
 use mathlib.Core.Logic.{_≢_}
 use mathlib.Core.List.{List, _∷_, [], _++_}
 use native.Mathlib.Omega.{arith}
-use native.Mathlib.Nat.{le-refl}
+use native.Mathlib.Nat.{le-refl, zero-add}
 use native.Mathlib.Numerals.{add-one}
 use lib.ListN.{length, getD, set, take, length-set}
 use lib.Seq.{getD-set-same, getD-set-other, getD-take, take-suc-set}
 use lib.Dec.{ltb}
+use borrow.Author.Tests.{lt-ltb, le-ltb}
 use Rattle.rules.specs.Table.{upd, row}
 use Rattle.rules.specs.State.{Tally, claims, joined-claim, join-claim, at, by-last}
 use Rattle.rules.specs.Steps.{mem, without, counted, join-order}
-use Rattle.rules.proofs.Table.{bool, same?, clash}
+use Rattle.rules.proofs.Table.{bool, same?, below?, clash}
 use Rattle.rules.proofs.Places.{mem-without, without-mem, without-none, snoc-old, snoc-new}
 use Rattle.rules.proofs.LastPlaces.{last-out, last-cong, last-moved, last-new, lasts-room}
-use Rattle.state.specs.Parts.{Parts, byte-sizes, most-places, put, store, word, MARK, CLAIM, STANDING, OWNER, PHASE, FAILED, LINE, LINED, MET, GONE, ORDER, PLACE, PLACED, TAKEN}
+use Rattle.state.specs.Parts.{Parts, byte-sizes, most-places, put, store, word, MARK, CLAIM, EVER, STANDING, OWNER, PHASE, FAILED, LINE, LINED, MET, GONE, ORDER, PLACE, PLACED, TAKEN}
 use Rattle.state.specs.Slices.{Slices}
 use Rattle.state.specs.View.{as-phase, as-mark, as-claim, set?, flat, claim-in, entered, queue-in, placed, lined, place-in, view}
 use Rattle.state.specs.Fill.{fill}
-use Rattle.state.specs.Ready.{Whole, Shaped, Ready, InLine, Trimmed, Lined, Hints, front}
+use Rattle.state.specs.Ready.{Whole, Shaped, Ready, InLine, Trimmed, Lined, Capped, Hints, front}
 use Rattle.state.proofs.Tables.{row-by}
 use Rattle.state.proofs.Cells.{row-fits}
 use Rattle.state.proofs.Behind.{behind-lined}
 use Rattle.state.proofs.Codes.{join-code}
 use Rattle.state.proofs.Parts.{put-same, whole-put, whole-store}
 use Rattle.state.proofs.Words.{word-same, view-word, whole-word}
-use Rattle.state.proofs.Stores.{view-set, row-in, row-out, length-fill, fill-in, fill-cong}
+use Rattle.state.proofs.Stores.{view-set, flat-past, row-in, row-out, length-fill, fill-in, fill-cong}
 use Rattle.state.proofs.Places.{front-on, front-length, front-mem, waiting-cong, waiting-left, order-length}
 use Rattle.state.proofs.Steps.{same-state}
-use Rattle.saves.specs.Rows.{larger-of, joined-at, claimed-row, Relisted, joined-in}
+use Rattle.saves.specs.Rows.{larger-of, joined-at, claimed-row, raised-at, raised-row, Relisted, joined-in}
 
 -- the regions of d with another line, and other counts of it
 abbrev pub apart : Parts → (line lined met gone : List ℕ) → Parts
@@ -84,6 +85,9 @@ module _ {m : ℕ} {d : Parts} (ready : Ready m d) (t : ℕ) (t32 : t < 32) (roo
 
   abbrev claim′ : List ℕ
   claim′ = fill (joined-at m d t) (t * m) m (d CLAIM)
+
+  abbrev ever′ : List ℕ
+  ever′ = fill (raised-at m d t) 0 m (d EVER)
 
   -- ---- Sizes
 
@@ -162,7 +166,7 @@ module _ {m : ℕ} {d : Parts} (ready : Ready m d) (t : ℕ) (t32 : t < 32) (roo
 
   pub joined-shaped : Shaped m after
   joined-shaped = record {
-    whole = whole-store (whole-store (whole-word (whole-word (whole-store (whole-store (whole-store (whole-put whole-apart CLAIM claim′ (rw length-fill (ready .shaped .whole .all CLAIM))) FAILED t 0) PHASE t 2) ORDER p t) PLACE t p) PLACED 0 (p + 1)) LINE c t) LINED 0 (c + 1);
+    whole = whole-store (whole-store (whole-word (whole-word (whole-store (whole-store (whole-store (whole-put (whole-put whole-apart EVER ever′ (rw length-fill (ready .shaped .whole .all EVER))) CLAIM claim′ (rw length-fill (ready .shaped .whole .all CLAIM))) FAILED t 0) PHASE t 2) ORDER p t) PLACE t p) PLACED 0 (p + 1)) LINE c t) LINED 0 (c + 1);
     fits = rw placed-more (omega arith);
   }
 
@@ -204,13 +208,35 @@ module _ {m : ℕ} {d : Parts} (ready : Ready m d) (t : ℕ) (t32 : t < 32) (roo
       before : (j : ℕ) → j ≤ c → front (set l c t) j ≡ front l j
       before j h = waiting-cong (set l c t) l (λ u. true) (λ u. true) j (λ q o. getD-set-other l c q t 0 (λ z. omega arith)) (λ q o. refl)
 
-  pub joined-hints : {h h′ : Parts} → Relisted m (claimed-row m d₁ t m) h t h′ → Hints m d h → Hints m after h′
+  -- the larger of two numbers grows with the first
+  larger-grows : (a b x : ℕ) → a ≤ b → larger-of a x ≤ larger-of b x
+  larger-grows a b x l = below? a x
+      (λ h. rw (lt-ltb a x h) (below? b x (λ g. rw (lt-ltb b x g) (le-refl x)) (λ g. rw (le-ltb b x g) g)))
+      (λ h. rw (le-ltb a x h, le-ltb b x (omega arith)) l)
+
+  larger-first : (a x : ℕ) → a ≤ larger-of a x
+  larger-first a x = below? a x (λ h. rw (lt-ltb a x h) (omega arith)) (λ h. rw (le-ltb a x h) (le-refl a))
+
+  joined-capped : Capped m d → Capped m after
+  unfolding flat
+  joined-capped v u k = below? k m inside (λ h. rw (flat-past m claim′ u k h) (omega arith))
+    where
+      inside : k < m → flat m claim′ u k ≤ getD ever′ k 0
+      inside h =
+          let e : getD ever′ k 0 ≡ raised-at m d t k = rw (zero-add k) at (fill-in (raised-at m d t) 0 m (d EVER) k h (rw (ready .shaped .whole .all EVER) (omega arith))) in
+          let w : getD (d CLAIM) (u * m + k) 0 ≤ getD (d EVER) k 0 = rw (lt-ltb k m h) at (v u k) in
+          same? u t
+          (λ y. rw (e, y, row-in m (d CLAIM) t (joined-at m d t) claim-fits k, lt-ltb k m h) (larger-grows (getD (d CLAIM) (t * m + k) 0) (getD (d EVER) k 0) (getD (d MARK) (t * m + k) 0) (rw y at w)))
+          (λ y. rw (e, row-out m (d CLAIM) t (joined-at m d t) u k y) (omega (arith, v u k, larger-first (getD (d EVER) k 0) (getD (d MARK) (t * m + k) 0))))
+
+  pub joined-hints : {h h′ : Parts} → Relisted m (claimed-row m (raised-row m d₁ t m) t m) h t h′ → Hints m d h → Hints m after h′
   joined-hints {h′ = h′} r k = record {
     whole = r .whole;
     trimmed = joined-trimmed;
     lined = joined-lined;
     listed = rw (fill-cong (joined-at m d t) (λ j. getD claim′ (t * m + j) 0) (t * m) m (d CLAIM) (λ j o. sym (fill-in (joined-at m d t) (t * m) m (d CLAIM) j o claim-fits)))
         (r .listed (d CLAIM) claim-fits (k .listed));
+    capped = joined-capped (k .capped);
   }
 
 -- ---- What joining comes to, from the regions d₁ that the line has left
@@ -221,7 +247,7 @@ pub record Joins (m : ℕ) (d d₁ : Parts) (t : ℕ) : Type 0 where
   pub line-room : lined d₁ < 32
   pub state : (x : Slices) (tally : Tally) → view m (joined-in m d₁ t) (x .value) (x .seen) (x .sheets) (counted tally) ≡ join-order (view m d (x .value) (x .seen) (x .sheets) tally) t
   pub shaped : Shaped m (joined-in m d₁ t)
-  pub hints : (h h′ : Parts) → Relisted m (claimed-row m d₁ t m) h t h′ → Hints m d h → Hints m (joined-in m d₁ t) h′
+  pub hints : (h h′ : Parts) → Relisted m (claimed-row m (raised-row m d₁ t m) t m) h t h′ → Hints m d h → Hints m (joined-in m d₁ t) h′
 
 pub apart-joins : {m : ℕ} {d : Parts} (ready : Ready m d) (t : ℕ) → t < 32 → placed d < most-places → Lined d → {l y x g : List ℕ} → Apart d t l y x g → Joins m d (apart d l y x g) t
 apart-joins ready t t32 room r a = record {

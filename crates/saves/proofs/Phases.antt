@@ -31,14 +31,14 @@ use Rattle.saves.proofs.Order.{Joins}
 pub holds-phase : {m : ℕ} {d : Parts} → Ready m d → (t v : ℕ) → Holds m d (store d PHASE t v)
 holds-phase r t v = record {
   shaped = record { whole = whole-store (r .shaped .whole) PHASE t v; fits = r .shaped .fits };
-  hints = λ h k. record { whole = k .whole; trimmed = k .trimmed; lined = k .lined; listed = k .listed };
+  hints = λ h k. record { whole = k .whole; trimmed = k .trimmed; lined = k .lined; listed = k .listed; capped = k .capped };
 }
 
 -- and one more run
 pub holds-entering : {m : ℕ} {d : Parts} → Ready m d → (t p : ℕ) → Holds m d (entering d t p)
 holds-entering {d = d} r t p = record {
   shaped = record { whole = whole-store (whole-store (r .shaped .whole) PHASE t p) RUNS t (getD (d RUNS) t 0 + 1); fits = r .shaped .fits };
-  hints = λ h k. record { whole = k .whole; trimmed = k .trimmed; lined = k .lined; listed = k .listed };
+  hints = λ h k. record { whole = k .whole; trimmed = k .trimmed; lined = k .lined; listed = k .listed; capped = k .capped };
 }
 
 module _ {m : ℕ} {d : Parts} (ready : Ready m d) (t : ℕ) (t32 : t < 32) {p : ℕ} (read : p ≡ getD (d PHASE) t 0) where

@@ -5,15 +5,20 @@ use mathlib.Core.Bool.{Bool, false, _||_, or-comm}
 use mathlib.Core.List.{List}
 use native.Mathlib.Omega.{arith}
 use native.Mathlib.Numerals.{add-one}
-use lib.ListN.{getD, set, length-set}
+use native.Mathlib.Nat.{zero-add}
+use lib.ListN.{length, getD, set, length-set}
 use Rattle.rules.specs.Table.{any}
-use Rattle.state.specs.Parts.{Parts, byte-sizes, bytes, hint-sizes, hints, off, put, store, MARK, CLAIM, LISTED, MANY}
+use Rattle.state.specs.Parts.{Parts, byte-sizes, bytes, hint-sizes, hints, off, put, store, MARK, CLAIM, EVER, LISTED, MANY}
 use Rattle.state.specs.Ready.{Whole}
 use Rattle.state.proofs.Cells.{cell-in}
-use Rattle.state.proofs.Parts.{row-get, row-set, put-put, whole-put}
+use Rattle.state.proofs.Parts.{parts-get, parts-set, within, row-get, row-set, put-put, whole-put}
 use Rattle.state.proofs.Stores.{fill-out, fill-on}
-use Rattle.saves.specs.Rows.{larger-of, joined-at, claimed-row, cleared-row, exceeds, wide-upto, Relisted}
+use Rattle.saves.specs.Rows.{larger-of, joined-at, claimed-row, raised-at, raised-row, cleared-row, exceeds, wide-upto, Relisted}
 use Rattle.saves.proofs.Listing.{Listing, one-of, listing-on, listing-all}
+
+-- the largest claims are in the bytes
+pub ever-in : {m : ℕ} (b : List ℕ) → Whole (byte-sizes m) (bytes m b) → (k : ℕ) → k < m → {to : ℕ} → to ≡ off (byte-sizes m) EVER → to + k < length b
+ever-in {m} b w k km et = rw et (within (byte-sizes m) b w EVER k km)
 
 module _ (m : ℕ) (b₀ b : List ℕ) (t k : ℕ) (t32 : t < 32) (km : k < m) {from : ℕ} (ef : from ≡ off (byte-sizes m) MARK + t * m) where
   module _ {to : ℕ} (et : to ≡ off (byte-sizes m) CLAIM + t * m) (e : bytes m b ≡ claimed-row m (bytes m b₀) t k) where
@@ -33,6 +38,22 @@ module _ (m : ℕ) (b₀ b : List ℕ) (t k : ℕ) (t32 : t < 32) (km : k < m) {
         ∙ rw (r, e)
         (put-put (bytes m b₀) CLAIM _ _
         ∙ ap (put (bytes m b₀) CLAIM) (fill-on (joined-at m (bytes m b₀) t) (t * m) k (bytes m b₀ CLAIM) _ refl))
+
+  module _ {to : ℕ} (et : to ≡ off (byte-sizes m) EVER) (e : bytes m b ≡ raised-row m (bytes m b₀) t k) where
+    -- neither the mark nor the largest claim at k has changed yet
+    mark-then : getD b (from + k) 0 ≡ getD (bytes m b₀ MARK) (t * m + k) 0
+    mark-then = row-get (byte-sizes m) b MARK m t k ef (cell-in m t32 km) ∙ rw e
+
+    ever-there : getD b (to + k) 0 ≡ getD (bytes m b₀ EVER) k 0
+    ever-there = _∙_ {b = getD (bytes m b EVER) k 0} (rw et (parts-get (byte-sizes m) b EVER k km)) (rw e (fill-out (raised-at m (bytes m b₀) t) 0 k (bytes m b₀ EVER) k (λ j l q. omega arith)))
+
+    pub raise-on : {v : ℕ} → v ≡ larger-of (getD b (to + k) 0) (getD b (from + k) 0) → bytes m (set b (to + k) v) ≡ raised-row m (bytes m b₀) t (k + 1)
+    raise-on {v} ev =
+        let r : v ≡ raised-at m (bytes m b₀) t k = ev ∙ rw (ever-there, mark-then) in
+        let z : bytes m (set b (to + k) v) ≡ store (bytes m b) EVER k v = rw et (parts-set (byte-sizes m) b EVER k km v) in
+        z ∙ rw (r, e)
+        (put-put (bytes m b₀) EVER _ _
+        ∙ ap (put (bytes m b₀) EVER) (rw (zero-add k) at (fill-on (raised-at m (bytes m b₀) t) 0 k (bytes m b₀ EVER) _ refl)))
 
   pub clear-on : bytes m b ≡ cleared-row m (bytes m b₀) t k → bytes m (set b (from + k) 0) ≡ cleared-row m (bytes m b₀) t (k + 1)
   clear-on e =

@@ -8,7 +8,7 @@ ghost use Rattle.state.specs.Parts.{most-places, byte-sizes, hint-sizes, bytes,
 ghost use Rattle.state.specs.View.{placed, lined};
 ghost use Rattle.state.specs.Ready.{Whole, Ready, Hints};
 ghost use Rattle.state.specs.Lent.{own, listing, seen-by, Moves, Keeps};
-ghost use Rattle.saves.specs.Rows.{larger-of, claimed-row, cleared-row, exceeds, wide-upto, Relisted, joined-in};
+ghost use Rattle.saves.specs.Rows.{larger-of, claimed-row, raised-row, cleared-row, exceeds, wide-upto, Relisted, joined-in};
 ghost use Rattle.sheets.specs.Tests.{taken-everywhere, granted-everywhere};
 use state::ABSENT;
 use state::Answer;
@@ -87,6 +87,22 @@ fn claim_row(b: &mut [u8], m: usize, t: usize)
     }
 }
 
+// The largest claims that any save ever had are raised to save t's marks.
+fn raise_row(b: &mut [u8], m: usize, t: usize)
+    requires { ⌜ Whole (byte-sizes m) (bytes m (now b)) × (m < 65536) × (t < 32) ⌝ }
+    ensures { λ _. ⌜ bytes m (now (b .exit)) ≡ raised-row m (bytes m (now (b .entry))) t m ⌝ }
+{
+    let from = state::marks(m, t);
+    let to = state::evers(m);
+    let mut k: usize = 0;
+    while k < m {
+        let x = b[from + k];
+        let c = b[to + k];
+        b[to + k] = larger(c, x);
+        k += 1;
+    }
+}
+
 // 1 where there is a claim.
 fn one(claim: u8) -> usize
     ensures { λ r. ⌜ r ≡ cond (eqb claim 0) 0 1 ⌝ }
@@ -122,9 +138,10 @@ fn join(b: &mut [u8], listed: &mut [u16], m: usize, t: u8)
         × (placed (bytes m (now b)) < most-places) × (lined (bytes m (now b)) < 32)
         ⌝ }
     ensures { λ _. ⌜ bytes m (now (b .exit)) ≡ joined-in m (bytes m (now (b .entry))) t ⌝ }
-    ensures lists { λ _. ⌜ Relisted m (claimed-row m (bytes m (now (b .entry))) t m) (hints m (now (listed .entry))) t (hints m (now (listed .exit))) ⌝ }
+    ensures lists { λ _. ⌜ Relisted m (claimed-row m (raised-row m (bytes m (now (b .entry))) t m) t m) (hints m (now (listed .entry))) t (hints m (now (listed .exit))) ⌝ }
 {
     let ti = t as usize;
+    raise_row(b, m, ti);
     claim_row(b, m, ti);
     list_row(b, listed, m, ti);
     state::set_failed(b, m, ti, 0);

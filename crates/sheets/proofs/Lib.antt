@@ -1,3 +1,4 @@
 pub mod Left
 pub mod Rising
+pub mod Here
 pub mod Sheets

@@ -5,16 +5,16 @@ use mathlib.Core.Bool.{Bool, true, false, _&&_, and-false}
 use mathlib.Core.List.{List, []}
 use mathlib.Core.Option.{some}
 use native.Mathlib.Omega.{arith}
-use native.Mathlib.Nat.{not-suc-le-zero}
 use lib.ListN.{getD}
+use borrow.Author.Tests.{ne-eqb}
 use Rattle.rules.specs.Steps.{owns, fails-at, Rule, valid, invalid, verdict, cause, cause-at, first-cause}
 use Rattle.rules.proofs.Table.{same?, below?, first-none, first-at}
 use Rattle.rules.proofs.Causes.{passing, failing}
-use Rattle.state.specs.Parts.{Parts, CLAIM, LISTED, MANY}
+use Rattle.state.specs.Parts.{Parts, CLAIM, OWNER, LISTED, MANY}
 use Rattle.state.specs.View.{view, no-tally}
 use Rattle.state.specs.Ready.{Ready, Hints}
 use Rattle.state.proofs.Listed.{unclaimed}
-use Rattle.sheets.specs.Tests.{rule-at}
+use Rattle.sheets.specs.Tests.{rule-at, FirstHere}
 
 -- node n's sheet k fails
 abbrev pub fails : (m : ℕ) (d : Parts) (seen w : List ℕ) (n t k : ℕ) → Bool
@@ -28,13 +28,14 @@ pub record Passed (m : ℕ) (d h : Parts) (seen w : List ℕ) (n t i : ℕ) : Ty
   pub within : i ≤ getD (h MANY) t 0
   pub passed : (j : ℕ) → j < i → fails m d seen w n t (getD (h LISTED) (t * m + j) 0) ≡ false
 
-pub passed-none : {m : ℕ} {d h : Parts} (seen w : List ℕ) (n : ℕ) {t : ℕ} → Ready m d → Hints m d h → t < 32 → Passed m d h seen w n t 0
-passed-none seen w n ready hints t32 = record {
+-- those of other nodes do
+pub passed-others : {m : ℕ} {d h : Parts} (seen w : List ℕ) {n t i : ℕ} → Ready m d → Hints m d h → t < 32 → FirstHere m d h n t i → Passed m d h seen w n t i
+passed-others {m} {d} {h} seen w {n} {t} ready hints t32 f = record {
   ready = ready;
   hints = hints;
   save = t32;
-  within = omega arith;
-  passed = λ j l. absurd (not-suc-le-zero l);
+  within = f .within;
+  passed = λ j l. rw (ne-eqb (getD (d OWNER) (getD (h LISTED) (t * m + j) 0) 0) n (f .before j l));
 }
 
 module _ {m : ℕ} {d h : Parts} {seen w : List ℕ} {n t i : ℕ} (p : Passed m d h seen w n t i) where

@@ -5,10 +5,10 @@ ghost use mathlib.Core.Path.{_≡_};
 ghost use mathlib.Core.Option.{some};
 ghost use Rattle.rules.specs.Steps.{behind, fails-at, verdict, first-cause, has-entry};
 ghost use Rattle.state.specs.Parts.{bytes, hints};
-ghost use Rattle.state.specs.Ready.{Ready, Trimmed, Hints, Table};
+ghost use Rattle.state.specs.Ready.{Ready, Trimmed, Capped, Hints, Table};
 ghost use Rattle.state.specs.Lent.{own, taking, seen-by};
 ghost use Rattle.state.specs.View.{rule-of, verdict-of};
-ghost use Rattle.sheets.specs.Tests.{rule-at, taken-at, taken-everywhere, granted-everywhere, claims-at, stands-at};
+ghost use Rattle.sheets.specs.Tests.{rule-at, FirstHere, taken-at, taken-everywhere, granted-everywhere, claims-at, stands-at};
 use state::ABSENT;
 use state::Cause;
 use state::Rule;
@@ -33,7 +33,10 @@ fn behind(b: &[u8], seen: &[u32], w: &[u32], m: usize, k: usize, t: u8) -> bool
 
 // Save t fails at sheet k. The queue is walked last: that takes the longest.
 fn fails_at(b: &[u8], seen: &[u32], w: &[u32], m: usize, k: usize, t: u8) -> bool
-    requires { ⌜ Ready m (bytes m (now b)) × Trimmed (bytes m (now b)) × Table 32 m (now seen) × Table 2 m (now w) × (k < m) × (t < 32) ⌝ }
+    requires { ⌜
+        Ready m (bytes m (now b)) × Trimmed (bytes m (now b)) × Capped m (bytes m (now b)) × Table 32 m (now seen) × Table 2 m (now w)
+        × (k < m) × (t < 32)
+        ⌝ }
     ensures { λ r. ⌜ r ≡ fails-at (seen-by m (taking (now (b .entry)) (now (seen .entry)) (now (w .entry)))) t k ⌝ }
 {
     let ti = t as usize;
@@ -50,7 +53,7 @@ fn fails_at(b: &[u8], seen: &[u32], w: &[u32], m: usize, k: usize, t: u8) -> boo
 
 // The rule that a save fails by at sheet k: where it fails and the queue holds no X, the counter is behind.
 fn rule_at(b: &[u8], m: usize, k: usize) -> Rule
-    requires { ⌜ Ready m (bytes m (now b)) × Trimmed (bytes m (now b)) × (k < m) ⌝ }
+    requires { ⌜ Ready m (bytes m (now b)) × Trimmed (bytes m (now b)) × Capped m (bytes m (now b)) × (k < m) ⌝ }
     ensures { λ r. ⌜ some (rule-of r) ≡ rule-at (seen-by m (own (now (b .entry)))) k ⌝ }
 {
     let f = queues::front_x(b, m, k);
@@ -64,14 +67,46 @@ fn rule_at(b: &[u8], m: usize, k: usize) -> Rule
     Rule::CounterBehind
 }
 
-// TAKE: what node n finds save t. The sheets are listed in rising number, and the first that fails is the cause.
-pub fn finding(b: &[u8], listed: &[u16], seen: &[u32], w: &[u32], m: usize, n: u8, t: u8) -> Verdict
-    requires { ⌜ Ready m (bytes m (now b)) × Hints m (bytes m (now b)) (hints m (now listed)) × Table 32 m (now seen) × Table 2 m (now w) × (t < 32) ⌝ }
-    ensures { λ r. ⌜ verdict-of r ≡ verdict (first-cause (seen-by m (taking (now (b .entry)) (now (seen .entry)) (now (w .entry)))) n t) ⌝ }
+// TAKE: where the first of save t's listed sheets stands that node n owns; if there is none, how many are listed.
+pub fn first_here(b: &[u8], listed: &[u16], m: usize, n: u8, t: u8) -> usize
+    requires { ⌜ Ready m (bytes m (now b)) × Hints m (bytes m (now b)) (hints m (now listed)) × (t < 32) ⌝ }
+    ensures { λ r. ⌜ FirstHere m (bytes m (now (b .entry))) (hints m (now (listed .entry))) n t r ⌝ }
 {
     let ti = t as usize;
     let upto = state::many(listed, m, ti) as usize;
     let mut i: usize = 0;
+    while i < upto {
+        let k = state::sheet_at(listed, m, ti, i) as usize;
+        let o = state::owner(b, m, k);
+        if o == n {
+            return i;
+        }
+        i += 1;
+    }
+    i
+}
+
+// TAKE: what node n finds save t. The sheets are listed in rising number, and the first that fails is the cause; those listed before `from`
+// are other nodes'.
+pub fn finding(
+    b: &[u8],
+    listed: &[u16],
+    seen: &[u32],
+    w: &[u32],
+    m: usize,
+    n: u8,
+    t: u8,
+    from: usize,
+) -> Verdict
+    requires { ⌜
+        Ready m (bytes m (now b)) × Hints m (bytes m (now b)) (hints m (now listed)) × Table 32 m (now seen) × Table 2 m (now w) × (t < 32)
+        × FirstHere m (bytes m (now b)) (hints m (now listed)) n t from
+        ⌝ }
+    ensures { λ r. ⌜ verdict-of r ≡ verdict (first-cause (seen-by m (taking (now (b .entry)) (now (seen .entry)) (now (w .entry)))) n t) ⌝ }
+{
+    let ti = t as usize;
+    let upto = state::many(listed, m, ti) as usize;
+    let mut i = from;
     while i < upto {
         let sheet = state::sheet_at(listed, m, ti, i);
         i += 1;

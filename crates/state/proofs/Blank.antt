@@ -15,7 +15,7 @@ use Rattle.state.specs.View.{waiting}
 use Rattle.state.specs.Ready.{front}
 use Rattle.state.specs.Starts.{Zero, Blank, Starts}
 use Rattle.state.proofs.Tables.{past}
-use Rattle.state.proofs.Fresh.{zeros, word-zero, fresh-view}
+use Rattle.state.proofs.Fresh.{zeros, word-zero, capped-none, fresh-view}
 use Rattle.state.proofs.Behind.{behind-none}
 use Rattle.state.proofs.Listed.{listed-none}
 use Rattle.state.proofs.Stores.{fill-in, length-fill, fill-on}
@@ -91,6 +91,7 @@ module _ (nodes : ℕ) (owners : List ℕ) (x : Slices) (blank : Blank (length o
         };
         lined = record { all = none-lined _ _ _ (zero LINED 0) (word-zero (d PLACED) (zero PLACED) 0); met = λ n. none-lined _ _ _ (zero MET n) (word-zero (d TAKEN) (zero TAKEN) n) };
         listed = listed-none m _ _ _ (zero CLAIM) (parts-zero (hint-sizes m) (x .listed) (blank .listed) (blank .listed0) MANY);
+        capped = capped-none m d′ (zero CLAIM);
       };
       value = blank .value;
       seen = blank .seen;

@@ -9,6 +9,7 @@ use lib.Dec.{ltb}
 use Rattle.rules.specs.State.{fresh}
 use Rattle.state.specs.Parts.{Parts, word, MARK, CLAIM, OWNER, PHASE, FAILED, RUNS, MET, PLACE, PLACED, TAKEN}
 use Rattle.state.specs.View.{flat, waiting, view, nodes, header-of, no-tally}
+use Rattle.state.specs.Ready.{Capped}
 use Rattle.state.specs.Starts.{Zero}
 use Rattle.state.proofs.Steps.{same-state}
 
@@ -24,6 +25,10 @@ flat-zero m l z x y = rw (z (x * m + y)) (pick (ltb y m))
     pick : (b : Bool) → _≡_ {A = ℕ} (cond b 0 0) 0
     pick true = refl
     pick false = refl
+
+-- nothing is claimed
+pub capped-none : (m : ℕ) (d : Parts) → Zero (d CLAIM) → Capped m d
+capped-none m d z t k = rw (flat-zero m (d CLAIM) z t k) (omega arith)
 
 pub word-zero : (l : List ℕ) → Zero l → (i : ℕ) → _≡_ {A = ℕ} (word l i) 0
 unfolding word

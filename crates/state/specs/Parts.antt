@@ -91,12 +91,15 @@ MARK = 14
 abbrev pub CLAIM : ℕ
 CLAIM = 15
 
+abbrev pub EVER : ℕ
+EVER = 16
+
 -- places that the order has room for: a place takes two commands of two bytes each
 abbrev pub most-places : ℕ
 most-places = 4096
 
 abbrev pub byte-sizes : ℕ → List ℕ
-byte-sizes m = 32 ∷ 32 ∷ 32 ∷ 32 ∷ 64 ∷ 16 ∷ 8 ∷ 8 ∷ 1 ∷ 1 ∷ 2 ∷ 256 ∷ most-places ∷ m ∷ 32 * m ∷ 32 * m ∷ []
+byte-sizes m = 32 ∷ 32 ∷ 32 ∷ 32 ∷ 64 ∷ 16 ∷ 8 ∷ 8 ∷ 1 ∷ 1 ∷ 2 ∷ 256 ∷ most-places ∷ m ∷ 32 * m ∷ 32 * m ∷ m ∷ []
 
 abbrev pub bytes : ℕ → List ℕ → Parts
 bytes m b = parts (byte-sizes m) b

@@ -6,7 +6,7 @@ use mathlib.Core.Logic.{_≢_}
 use mathlib.Core.List.{List}
 use lib.ListN.{length, getD}
 use Rattle.rules.specs.State.{State, is-first, is-second, running, at, by-last}
-use Rattle.state.specs.Parts.{Parts, size, word, most-places, byte-sizes, bytes, hint-sizes, hints, WCT, CLAIM, LISTED, STANDING, OWNER, PHASE, RUNS, LINE, MET, ORDER, MANY, TAKEN, GONE}
+use Rattle.state.specs.Parts.{Parts, size, word, most-places, byte-sizes, bytes, hint-sizes, hints, WCT, CLAIM, EVER, LISTED, STANDING, OWNER, PHASE, RUNS, LINE, MET, ORDER, MANY, TAKEN, GONE}
 use Rattle.state.specs.Slices.{Slices}
 use Rattle.state.specs.View.{as-phase, flat, nodes, placed, lined, place-in, waiting}
 use Rattle.state.specs.Listed.{Listed}
@@ -94,11 +94,16 @@ pub record InLine (line standing mets gone : List ℕ) (lined : ℕ) : Type 0 wh
 abbrev pub Trimmed : Parts → Type 0
 Trimmed d = InLine (d LINE) (d STANDING) (d MET) (d GONE) (lined d)
 
+-- no save claims more on a sheet than the largest claim that any save ever had there
+abbrev pub Capped : ℕ → Parts → Type 0
+Capped m d = (t k : ℕ) → flat m (d CLAIM) t k ≤ getD (d EVER) k 0
+
 pub record Hints (m : ℕ) (d h : Parts) : Type 0 where
   pub whole : Whole (hint-sizes m) h
   pub trimmed : Trimmed d
   pub lined : Lined d
   pub listed : Listed m (d CLAIM) (h LISTED) (h MANY)
+  pub capped : Capped m d
 
 -- ---- What every command keeps: the sizes and the hints
 

@@ -9,7 +9,7 @@ ghost use mathlib.Core.Path.{_≡_};
 ghost use mathlib.Core.Bool.{_||_};
 ghost use lib.Dec.{eqb};
 ghost use lib.ListN.{length, getD, set};
-ghost use Rattle.state.specs.Parts.{off, most-places, byte-sizes, hint-sizes, bytes, hints, word, store, MARK, CLAIM, STANDING, OWNER, PHASE, FAILED, RUNS, LINE, ORDER, PLACE, TAKEN, MET, GONE, NODES, LINED, PLACED, MANY, LISTED};
+ghost use Rattle.state.specs.Parts.{off, most-places, byte-sizes, hint-sizes, bytes, hints, word, store, MARK, CLAIM, EVER, STANDING, OWNER, PHASE, FAILED, RUNS, LINE, ORDER, PLACE, TAKEN, MET, GONE, NODES, LINED, PLACED, MANY, LISTED};
 ghost use Rattle.state.specs.Slices.{slices};
 ghost use Rattle.state.specs.View.{placed, lined, out-of-phase};
 ghost use Rattle.state.specs.Ready.{Whole, Ready};
@@ -57,7 +57,7 @@ impl Session {
     pub const SAVE_NUMBERS: u8 = 32;
 
     // The sizes of the slices for as many sheets as a session may have.
-    pub const BYTES: usize = Session::OWNER + Session::SHEETS + 2 * Session::COPIES;
+    pub const BYTES: usize = Session::OWNER + 2 * Session::SHEETS + 2 * Session::COPIES;
 
     pub const LISTS: usize = Session::SAVES + Session::COPIES;
 
@@ -104,7 +104,8 @@ impl Session {
     // The order: the save at each place.
     const ORDER: usize = Session::STANDING + Session::NODES * Session::SAVES;
 
-    // The owners, a byte for each sheet; behind them the marks and then the claims, a row for each save.
+    // The owners, a byte for each sheet; behind them the marks and then the claims, a row for each save; then a hint, the largest claim that
+    // any save ever had on each sheet.
     const OWNER: usize = Session::ORDER + Session::PLACES;
 
     // Where the counts start in the lists; behind them the sheets, a row for each save.
@@ -185,6 +186,14 @@ pub fn claims(m: usize, t: usize) -> usize
     ensures { λ r. ⌜ r ≡ off (byte-sizes m) CLAIM + t * m ⌝ }
 {
     Session::OWNER + m + Session::SAVES * m + t * m
+}
+
+// Where the largest claims start in the bytes.
+pub fn evers(m: usize) -> usize
+    requires { ⌜ m < 65536 ⌝ }
+    ensures { λ r. ⌜ r ≡ off (byte-sizes m) EVER ⌝ }
+{
+    Session::OWNER + m + Session::SAVES * m + Session::SAVES * m
 }
 
 // Where save t's row starts in the lists.
@@ -346,6 +355,14 @@ pub fn claim(b: &[u8], m: usize, t: usize, k: usize) -> u8
     ensures { λ r. ⌜ r ≡ getD (bytes m (now (b .entry)) CLAIM) (t * m + k) 0 ⌝ }
 {
     b[Session::OWNER + m + Session::SAVES * m + (t * m + k)]
+}
+
+// The largest claim that any save ever had on sheet k.
+pub fn ever(b: &[u8], m: usize, k: usize) -> u8
+    requires { ⌜ Whole (byte-sizes m) (bytes m (now b)) × (k < m) ⌝ }
+    ensures { λ r. ⌜ r ≡ getD (bytes m (now (b .entry)) EVER) k 0 ⌝ }
+{
+    b[Session::OWNER + m + Session::SAVES * m + Session::SAVES * m + k]
 }
 
 // How many sheets are listed for save t.

@@ -1,41 +1,47 @@
 -- Each change in turn.
 use Rattle.state.specs.Parts.{bytes}
-use Rattle.saves.proofs.Joining.{claimed-whole, cleared-whole, submitted-whole, submitted-room, placed-whole, placed-room, joined-stored}
+use Rattle.saves.proofs.Joining.{raised-whole, claimed-whole, cleared-whole, submitted-whole, submitted-room, placed-whole, placed-room, joined-stored}
 use borrow.Author.Needs.{needs}
 use Rattle.saves.proofs.join.Statement.{statement}
 use Rattle.saves.proofs.join.Tie as tie
 
+raise-row-requires : tie.Need-raise-row-requires
+raise-row-requires c κs = search needs
+
 claim-row-requires : tie.Need-claim-row-requires
-claim-row-requires c κs = search needs
+claim-row-requires c κs = let s = c .before .before .before .before .before .before .before in
+    (raised-whole (bytes (s .args .m) (s .args .b .now)) (s .args .t) (s .pre .0) (c .before .before .before .raise-row .ensures), s .pre .2, s .pre .3)
 
 list-row-requires : tie.Need-list-row-requires
-list-row-requires c κs = let s = c .before .before .before .before .before .before .before .before in
-    (claimed-whole (bytes (s .args .m) (s .args .b .now)) (s .args .t) (s .pre .0) (c .before .before .before .before .claim-row .ensures), s .pre .1, s .pre .2, s .pre .3)
+list-row-requires c κs = let s = c .before .before .before .before .before .before .before .before .before .before .before .before in
+    (claimed-whole (bytes (s .args .m) (s .args .b .now)) (s .args .t) (s .pre .0) (c .before .before .before .before .before .before .before .before .raise-row .ensures) (c .before .before .before .before .claim-row .ensures), s .pre .1, s .pre .2, s .pre .3)
 
 set-failed-requires : tie.Need-set-failed-requires
-set-failed-requires c κs = let s = c .before .before .before .before .before .before .before .before .before .before .before .before in
-    (claimed-whole (bytes (s .args .m) (s .args .b .now)) (s .args .t) (s .pre .0) (c .before .before .before .before .before .before .before .before .claim-row .ensures), s .pre .3)
+set-failed-requires c κs = let s = c .before .before .before .before .before .before .before .before .before .before .before .before .before .before .before .before in
+    (claimed-whole (bytes (s .args .m) (s .args .b .now)) (s .args .t) (s .pre .0) (c .before .before .before .before .before .before .before .before .before .before .before .before .raise-row .ensures) (c .before .before .before .before .before .before .before .before .claim-row .ensures), s .pre .3)
 
 set-phase-requires : tie.Need-set-phase-requires
-set-phase-requires c κs = let s = c .before .before .before .before .before .before .before .before .before .before .before .before .before .before .before .before in
-    (cleared-whole (bytes (s .args .m) (s .args .b .now)) (s .args .t) (s .pre .0) (c .before .before .before .before .before .before .before .before .before .before .before .before .claim-row .ensures) (c .before .before .before .set-failed .ensures), s .pre .3)
+set-phase-requires c κs = let s = c .before .before .before .before .before .before .before .before .before .before .before .before .before .before .before .before .before .before .before .before in
+    (cleared-whole (bytes (s .args .m) (s .args .b .now)) (s .args .t) (s .pre .0) (c .before .before .before .before .before .before .before .before .before .before .before .before .before .before .before .before .raise-row .ensures) (c .before .before .before .before .before .before .before .before .before .before .before .before .claim-row .ensures) (c .before .before .before .set-failed .ensures), s .pre .3)
 
 take-place-requires : tie.Need-take-place-requires
-take-place-requires c κs = let s = c .before .before .before .before .before .before .before .before .before .before .before .before .before .before .before .before .before .before .before .before in
+take-place-requires c κs = let s = c .before .before .before .before .before .before .before .before .before .before .before .before .before .before .before .before .before .before .before .before .before .before .before .before in
     let d = bytes (s .args .m) (s .args .b .now) in
+    let e₀ = c .before .before .before .before .before .before .before .before .before .before .before .before .before .before .before .before .before .before .before .before .raise-row .ensures in
     let e₁ = c .before .before .before .before .before .before .before .before .before .before .before .before .before .before .before .before .claim-row .ensures in
     let e₂ = c .before .before .before .before .before .before .before .set-failed .ensures in
     let e₃ = c .before .before .before .set-phase .ensures in
-    (submitted-whole d (s .args .t) (s .pre .0) e₁ e₂ e₃, s .pre .3, submitted-room d (s .args .t) (s .pre .0) e₁ e₂ e₃ (s .pre .4))
+    (submitted-whole d (s .args .t) (s .pre .0) e₀ e₁ e₂ e₃, s .pre .3, submitted-room d (s .args .t) (s .pre .0) e₀ e₁ e₂ e₃ (s .pre .4))
 
 line-up-requires : tie.Need-line-up-requires
-line-up-requires c κs = let s = c .before .before .before .before .before .before .before .before .before .before .before .before .before .before .before .before .before .before .before .before .before .before .before .before in
+line-up-requires c κs = let s = c .before .before .before .before .before .before .before .before .before .before .before .before .before .before .before .before .before .before .before .before .before .before .before .before .before .before .before .before in
     let d = bytes (s .args .m) (s .args .b .now) in
+    let e₀ = c .before .before .before .before .before .before .before .before .before .before .before .before .before .before .before .before .before .before .before .before .before .before .before .before .raise-row .ensures in
     let e₁ = c .before .before .before .before .before .before .before .before .before .before .before .before .before .before .before .before .before .before .before .before .claim-row .ensures in
     let e₂ = c .before .before .before .before .before .before .before .before .before .before .before .set-failed .ensures in
     let e₃ = c .before .before .before .before .before .before .before .set-phase .ensures in
     let e₄ = c .before .before .before .take-place .ensures in
-    (placed-whole d (s .args .t) (s .pre .0) e₁ e₂ e₃ e₄, placed-room d (s .args .t) (s .pre .0) e₁ e₂ e₃ e₄ (s .pre .5))
+    (placed-whole d (s .args .t) (s .pre .0) e₀ e₁ e₂ e₃ e₄, placed-room d (s .args .t) (s .pre .0) e₀ e₁ e₂ e₃ e₄ (s .pre .5))
 
 same-length : tie.Need-same-length
 same-length c = search needs
@@ -44,17 +50,19 @@ same-length-2 : tie.Need-same-length-2
 same-length-2 c = search needs
 
 returns : tie.Need-returns
-returns c = let s = c .before .before .before .before .before .before .before .before .before .before .before .before .before .before .before .before .before .before .before .before .before .before .before .before .before .before .before in
+returns c = let s = c .before .before .before .before .before .before .before .before .before .before .before .before .before .before .before .before .before .before .before .before .before .before .before .before .before .before .before .before .before .before .before in
     let d = bytes (s .args .m) (s .args .b .now) in
+    let e₀ = c .before .before .before .before .before .before .before .before .before .before .before .before .before .before .before .before .before .before .before .before .before .before .before .before .before .before .before .raise-row .ensures in
     let e₁ = c .before .before .before .before .before .before .before .before .before .before .before .before .before .before .before .before .before .before .before .before .before .before .before .claim-row .ensures in (
-      joined-stored d (s .args .t) (s .pre .0) e₁ (c .before .before .before .before .before .before .before .before .before .before .before .before .before .before .set-failed .ensures) (c .before .before .before .before .before .before .before .before .before .before .set-phase .ensures) (c .before .before .before .before .before .before .take-place .ensures) (c .before .before .line-up .ensures),
-      rw e₁ at (c .before .before .before .before .before .before .before .before .before .before .before .before .before .before .before .before .before .before .list-row .ensures),
+      joined-stored d (s .args .t) (s .pre .0) e₀ e₁ (c .before .before .before .before .before .before .before .before .before .before .before .before .before .before .set-failed .ensures) (c .before .before .before .before .before .before .before .before .before .before .set-phase .ensures) (c .before .before .before .before .before .before .take-place .ensures) (c .before .before .line-up .ensures),
+      rw (e₁, e₀) at (c .before .before .before .before .before .before .before .before .before .before .before .before .before .before .before .before .before .before .list-row .ensures),
     )
 
 pub join-spec : {M : Type 1} → statement M
 join-spec =
     tie.close
     (tie.spec
+    raise-row-requires
     claim-row-requires
     list-row-requires
     set-failed-requires

@@ -39,7 +39,7 @@ cast-k c = search needs
 granted-at-requires : tie.Need-granted-at-requires Inv-loop μ-loop
 granted-at-requires c κs =
     let l = c .before .before .loop .inv in
-    (l .ready, l .hints .trimmed, left-sheet l (c .before .loop-test .taken) (c .sheet-at .ensures), l .save)
+    (l .ready, l .hints .trimmed, l .hints .capped, left-sheet l (c .before .loop-test .taken) (c .sheet-at .ensures), l .save)
 
 loop-less : tie.Need-loop-less Inv-loop μ-loop
 loop-less c = search needs

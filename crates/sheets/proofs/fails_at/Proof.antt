@@ -15,7 +15,7 @@ returns : tie.Need-returns
 returns c =
     let s = c .before .before .before .before .before in
     let a = s .args in
-    sym (fails-read (bytes (a .m) (a .b .now)) (s .pre .4) (a .t) (c .before .claim .ensures) (a .seen .now) (a .w .now) refl refl ∙ rw (eq-eqb _ _ (c .if1 .taken)))
+    sym (fails-read (bytes (a .m) (a .b .now)) (s .pre .5) (a .t) (c .before .claim .ensures) (a .seen .now) (a .w .now) refl refl ∙ rw (eq-eqb _ _ (c .if1 .taken)))
 
 behind-requires : tie.Need-behind-requires
 behind-requires c κs = search needs
@@ -25,7 +25,7 @@ returns-2 c =
     let p = c .before .before .before in
     let s = p .before .before .before .before in
     let a = s .args in
-    sym (fails-read (bytes (a .m) (a .b .now)) (s .pre .4) (a .t) (p .claim .ensures) (a .seen .now) (a .w .now) (c .before .behind .ensures) refl
+    sym (fails-read (bytes (a .m) (a .b .now)) (s .pre .5) (a .t) (p .claim .ensures) (a .seen .now) (a .w .now) (c .before .behind .ensures) refl
     ∙ rw (ne-eqb _ _ (c .before .before .if1 .left), c .if2 .taken, or-true))
 
 holds-x-requires : tie.Need-holds-x-requires
@@ -36,7 +36,7 @@ returns-3 c =
     let p = c .before .before .before .before in
     let s = p .before .before .before .before in
     let a = s .args in
-    sym (fails-read (bytes (a .m) (a .b .now)) (s .pre .4) (a .t) (p .claim .ensures) (a .seen .now) (a .w .now) (c .before .before .behind .ensures) (c .holds-x .ensures)
+    sym (fails-read (bytes (a .m) (a .b .now)) (s .pre .5) (a .t) (p .claim .ensures) (a .seen .now) (a .w .now) (c .before .before .behind .ensures) (c .holds-x .ensures)
     ∙ rw (ne-eqb _ _ (c .before .before .before .if1 .left), c .before .if2 .left, or-false))
 
 pub fails-at-spec : {M : Type 1} → statement M

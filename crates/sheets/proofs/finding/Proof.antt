@@ -2,17 +2,17 @@
 use Prim.Native.Nat.{_-_}
 use mathlib.Core.Path.{refl}
 use Rattle.state.specs.Parts.{bytes, hints}
-use Rattle.sheets.proofs.Rising.{Passed, passed-none, passed-all, passed-place, passed-sheet, passed-on, passed-found}
+use Rattle.sheets.proofs.Rising.{Passed, passed-others, passed-all, passed-place, passed-sheet, passed-on, passed-found}
 use Rattle.sheets.proofs.Sheets.{owned, not-owned}
 use borrow.Author.Needs.{needs}
 use Rattle.sheets.proofs.finding.Statement.{statement}
 use Rattle.sheets.proofs.finding.Tie as tie
 
 abbrev Inv-loop : tie.InvT-loop
-Inv-loop b listed seen w m n t ti upto i₀ i = Passed m (bytes m b) (hints m listed) seen w n t i
+Inv-loop b listed seen w m n t from ti upto i₀ i = Passed m (bytes m b) (hints m listed) seen w n t i
 
 abbrev μ-loop : tie.MeasureT-loop
-μ-loop b listed seen w m n t ti upto i₀ i = upto - i
+μ-loop b listed seen w m n t from ti upto i₀ i = upto - i
 
 many-requires : tie.Need-many-requires Inv-loop μ-loop
 many-requires c κs = search needs
@@ -23,7 +23,7 @@ cast-upto c = search needs
 loop-holds : tie.Need-loop-holds Inv-loop μ-loop
 loop-holds c =
     let s = c .before .before .before .before .before in
-    passed-none (s .args .seen .now) (s .args .w .now) (s .args .n) (s .pre .0) (s .pre .1) (s .pre .4)
+    passed-others (s .args .seen .now) (s .args .w .now) (s .pre .0) (s .pre .1) (s .pre .4) (s .pre .5)
 
 sheet-at-requires : tie.Need-sheet-at-requires Inv-loop μ-loop
 sheet-at-requires c κs =
@@ -46,13 +46,13 @@ fails-at-requires c κs =
     let p = c .before .before in
     let l = p .before .before .loop .inv in
     let s = c .before .before .before .before .before .before .before .before .before .before .pre in
-    (l .ready, l .hints .trimmed, s .2, s .3, passed-sheet l (p .before .before .before .many .ensures) (p .before .loop-test .taken) (p .sheet-at .ensures), l .save)
+    (l .ready, l .hints .trimmed, l .hints .capped, s .2, s .3, passed-sheet l (p .before .before .before .many .ensures) (p .before .loop-test .taken) (p .sheet-at .ensures), l .save)
 
 rule-at-requires : tie.Need-rule-at-requires Inv-loop μ-loop
 rule-at-requires c κs =
     let p = c .before .before .before .before in
     let l = p .before .before .loop .inv in
-    (l .ready, l .hints .trimmed, passed-sheet l (p .before .before .before .many .ensures) (p .before .loop-test .taken) (p .sheet-at .ensures))
+    (l .ready, l .hints .trimmed, l .hints .capped, passed-sheet l (p .before .before .before .many .ensures) (p .before .loop-test .taken) (p .sheet-at .ensures))
 
 returns : tie.Need-returns Inv-loop μ-loop
 returns c =
