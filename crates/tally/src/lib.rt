@@ -3,7 +3,7 @@ use state::Answer;
 ghost use mathlib.Core.Path.{_≡_};
 ghost use Prim.Native.Nat.{_+_, _<_, _^_};
 ghost use Rattle.state.specs.View.{advanced};
-ghost use Rattle.tally.specs.Figures.{figures, plus, accepts-of, commits-of, recommits-of, Room};
+ghost use Rattle.tally.specs.Figures.{figures, plus, Room};
 
 // Commands accepted, saves committed from the first run, from a later one.
 pub struct Tally {
@@ -32,54 +32,6 @@ pub fn advanced_by(t: Tally, a: u32, f: u32, s: u32) -> Tally
     u
 }
 
-// 1 where the command was accepted.
-fn accepts(a: Answer) -> u32
-    ensures { λ r. ⌜ r ≡ accepts-of a ⌝ }
-{
-    match a {
-        Answer::Accepted => 1,
-        Answer::Content(_) => 1,
-        Answer::Took(_, _) => 1,
-        Answer::Commits => 1,
-        Answer::CommitsLater => 1,
-        Answer::SecondRun => 1,
-        Answer::Recommits => 1,
-        Answer::Refused(_) => 0,
-    }
-}
-
-// 1 where it committed a save from its first run.
-fn commits(a: Answer) -> u32
-    ensures { λ r. ⌜ r ≡ commits-of a ⌝ }
-{
-    match a {
-        Answer::Accepted => 0,
-        Answer::Content(_) => 0,
-        Answer::Took(_, _) => 0,
-        Answer::Commits => 1,
-        Answer::CommitsLater => 0,
-        Answer::SecondRun => 0,
-        Answer::Recommits => 0,
-        Answer::Refused(_) => 0,
-    }
-}
-
-// 1 where it committed a save from a later run.
-fn recommits(a: Answer) -> u32
-    ensures { λ r. ⌜ r ≡ recommits-of a ⌝ }
-{
-    match a {
-        Answer::Accepted => 0,
-        Answer::Content(_) => 0,
-        Answer::Took(_, _) => 0,
-        Answer::Commits => 0,
-        Answer::CommitsLater => 1,
-        Answer::SecondRun => 0,
-        Answer::Recommits => 1,
-        Answer::Refused(_) => 0,
-    }
-}
-
 impl Tally {
     // Nothing is counted yet.
     pub fn new() -> Tally
@@ -92,14 +44,20 @@ impl Tally {
         }
     }
 
-    // Advanced by a command's answer.
+    // Advanced by a command's answer. Each arm names what it adds: a sum of the answer's own would be carried along by every command.
     pub fn advanced(self, a: Answer) -> Tally
         requires { ⌜ Room self ⌝ }
         ensures { λ r. ⌜ figures r ≡ advanced (figures self) a ⌝ }
     {
-        let n = accepts(a);
-        let f = commits(a);
-        let s = recommits(a);
-        advanced_by(self, n, f, s)
+        match a {
+            Answer::Accepted => advanced_by(self, 1, 0, 0),
+            Answer::Content(_) => advanced_by(self, 1, 0, 0),
+            Answer::Took(_, _) => advanced_by(self, 1, 0, 0),
+            Answer::Commits => advanced_by(self, 1, 1, 0),
+            Answer::CommitsLater => advanced_by(self, 1, 0, 1),
+            Answer::SecondRun => advanced_by(self, 1, 0, 0),
+            Answer::Recommits => advanced_by(self, 1, 0, 1),
+            Answer::Refused(_) => self,
+        }
     }
 }
