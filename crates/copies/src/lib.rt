@@ -6,7 +6,7 @@ ghost use lib.Dec.{eqb};
 ghost use Rattle.rules.specs.Bytes.{Read, Write};
 ghost use Rattle.rules.specs.Steps.{at-front, x-on};
 ghost use Rattle.state.specs.Parts.{bytes, byte-sizes};
-ghost use Rattle.state.specs.Ready.{Whole, Table, Ready, Trimmed};
+ghost use Rattle.state.specs.Ready.{Whole, Table, Ready, Trimmed, Rising};
 ghost use Rattle.state.specs.Lent.{own, writing, reading, seen-by, Moves, Keeps};
 ghost use Rattle.copies.specs.Barred.{barred-by};
 use state::ABSENT;
@@ -50,13 +50,13 @@ fn blocked(b: &[u8], m: usize, k: usize, p: u8) -> bool
 pub fn read(
     b: &mut [u8],
     value: &mut [u32],
-    seen: &mut [u32],
+    seen: &mut [u16],
     w: &[u32],
     m: usize,
     t: u8,
     k: u16,
 ) -> Answer
-    requires { ⌜ Ready m (bytes m (now b)) × Trimmed (bytes m (now b)) × Table 32 m (now value) × Table 32 m (now seen) × Table 2 m (now w) ⌝ }
+    requires { ⌜ Ready m (bytes m (now b)) × Trimmed (bytes m (now b)) × Table 32 m (now value) × Table 32 m (now seen) × Table 2 m (now w) × Rising m (now w) ⌝ }
     ensures { λ r. ⌜
         Moves m (reading (now (b .entry)) (now (value .entry)) (now (seen .entry)) (now (w .entry))) (Read t k)
         (reading (now (b .exit)) (now (value .exit)) (now (seen .exit)) (now (w .entry))) r
@@ -85,7 +85,7 @@ pub fn read(
     let v = state::cell(w, m, Session::CONTENT, ki);
     let c = state::cell(w, m, Session::WCT, ki);
     state::set_cell(value, m, ti, ki, v);
-    state::set_cell(seen, m, ti, ki, c);
+    state::set_seen(seen, m, ti, ki, c as u16);
     state::set_mark(b, m, ti, ki, COPIED);
     Answer::Content(v)
 }

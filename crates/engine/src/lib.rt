@@ -12,7 +12,7 @@ pub fn step(
     b: &mut [u8],
     listed: &mut [u16],
     value: &mut [u32],
-    seen: &mut [u32],
+    seen: &mut [u16],
     w: &mut [u32],
     m: usize,
     c: Command,

@@ -22,7 +22,7 @@ use state::WRITTEN;
 fn take_last(
     b: &mut [u8],
     listed: &[u16],
-    seen: &[u32],
+    seen: &[u16],
     w: &[u32],
     m: usize,
     n: u8,
@@ -54,7 +54,7 @@ fn take_last(
 }
 
 // Node n takes the next place of the order. A former place of a save only counts.
-pub fn take(b: &mut [u8], listed: &[u16], seen: &[u32], w: &[u32], m: usize, n: u8) -> Answer
+pub fn take(b: &mut [u8], listed: &[u16], seen: &[u16], w: &[u32], m: usize, n: u8) -> Answer
     requires { ⌜ Ready m (bytes m (now b)) × Hints m (bytes m (now b)) (hints m (now listed)) × Table 32 m (now seen) × Table 2 m (now w) ⌝ }
     ensures { λ r. ⌜ Moves m (taking (now (b .entry)) (now (seen .entry)) (now (w .entry))) (Take n) (taking (now (b .exit)) (now (seen .entry)) (now (w .entry))) r ⌝ }
     ensures kept { λ _. ⌜ Keeps m (own (now (b .entry))) (own (now (b .exit))) ⌝ }

@@ -144,7 +144,7 @@ fn walk(
     b: &mut [u8],
     listed: &mut [u16],
     value: &mut [u32],
-    seen: &mut [u32],
+    seen: &mut [u16],
     w: &mut [u32],
     m: usize,
 ) -> Walked
@@ -187,7 +187,7 @@ pub fn run(session: &[u8], report: &mut [u8], nodes: u8, sheets: u16) -> Ended
     let mut b = [0u8; Session::BYTES];
     let mut listed = [0u16; Session::LISTS];
     let mut value = [0u32; Session::COPIES];
-    let mut seen = [0u32; Session::COPIES];
+    let mut seen = [0u16; Session::COPIES];
     let mut w = [0u32; Session::STORE];
     let m = sheets as usize;
     let end = 2 + m;

@@ -17,12 +17,12 @@ use state::UNCLAIMED;
 use state::Verdict;
 
 // The counter is behind at sheet k: save t has a copy, whose WCT is below the sheet's. Only where it is below does the mark count.
-fn behind(b: &[u8], seen: &[u32], w: &[u32], m: usize, k: usize, t: u8) -> bool
+fn behind(b: &[u8], seen: &[u16], w: &[u32], m: usize, k: usize, t: u8) -> bool
     requires { ⌜ Ready m (bytes m (now b)) × Table 32 m (now seen) × Table 2 m (now w) × (k < m) × (t < 32) ⌝ }
     ensures { λ r. ⌜ r ≡ behind (seen-by m (taking (now (b .entry)) (now (seen .entry)) (now (w .entry)))) t k ⌝ }
 {
     let ti = t as usize;
-    let s = state::cell(seen, m, ti, k);
+    let s = state::seen_at(seen, m, ti, k) as u32;
     let v = state::cell(w, m, Session::WCT, k);
     if v <= s {
         return false;
@@ -32,7 +32,7 @@ fn behind(b: &[u8], seen: &[u32], w: &[u32], m: usize, k: usize, t: u8) -> bool
 }
 
 // Save t fails at sheet k. The queue is walked last: that takes the longest.
-fn fails_at(b: &[u8], seen: &[u32], w: &[u32], m: usize, k: usize, t: u8) -> bool
+fn fails_at(b: &[u8], seen: &[u16], w: &[u32], m: usize, k: usize, t: u8) -> bool
     requires { ⌜
         Ready m (bytes m (now b)) × Trimmed (bytes m (now b)) × Capped m (bytes m (now b)) × Table 32 m (now seen) × Table 2 m (now w)
         × (k < m) × (t < 32)
@@ -91,7 +91,7 @@ pub fn first_here(b: &[u8], listed: &[u16], m: usize, n: u8, t: u8) -> usize
 pub fn finding(
     b: &[u8],
     listed: &[u16],
-    seen: &[u32],
+    seen: &[u16],
     w: &[u32],
     m: usize,
     n: u8,

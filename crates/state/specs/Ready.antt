@@ -37,7 +37,7 @@ pub record Known (s : State) : Type 0 where
   pub stands : (t : ℕ) → t < 32 → is-second (s .phase t) ≡ true → (s .place t < length (s .order)) × (at (s .order) (s .place t) ≡ t)  -- a later run has a place
   pub room : (t : ℕ) → t < 32 → running (s .phase t) ≡ true → length (s .order) < most-places  -- a running save finds a place
   pub runs : (t : ℕ) → t < 32 → s .runs t < 255  -- one more fits
-  pub rises : (k : ℕ) → k < s .header .sheets → s .sheet k .wct < 4294967295  -- one more fits
+  pub rises : (k : ℕ) → k < s .header .sheets → s .sheet k .wct < 65535  -- one more fits, and a copy's has 16 bits
 
 -- ---- The same of the slices
 
@@ -57,9 +57,9 @@ pub record Ready (m : ℕ) (d : Parts) : Type 0 where
   pub room : (t : ℕ) → t < 32 → running (as-phase (getD (d PHASE) t 0)) ≡ true → placed d < most-places
   pub runs : (t : ℕ) → getD (d RUNS) t 0 < 255
 
--- a write counter can rise
+-- a write counter can rise, and has 16 bits, as in a copy
 abbrev pub Rising : ℕ → List ℕ → Type 0
-Rising m w = (k : ℕ) → flat m w WCT k < 4294967295
+Rising m w = (k : ℕ) → flat m w WCT k < 65535
 
 -- ---- The saves in line, and the hints, which no part of the rules' state shows
 

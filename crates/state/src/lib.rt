@@ -381,7 +381,15 @@ pub fn sheet_at(listed: &[u16], m: usize, t: usize, i: usize) -> u16
     listed[Session::SAVES + (t * m + i)]
 }
 
-// Row x, sheet k, of a table of numbers: a save's row of `value` or `seen`, or one of the two of `w`.
+// The WCT of sheet k that save t saw.
+pub fn seen_at(seen: &[u16], m: usize, t: usize, k: usize) -> u16
+    requires { ⌜ (t * m + m ≤ length (now seen)) × (k < m) ⌝ }
+    ensures { λ r. ⌜ r ≡ getD (now (seen .entry)) (t * m + k) 0 ⌝ }
+{
+    seen[t * m + k]
+}
+
+// Row x, sheet k, of a table of numbers: a save's row of `value`, or one of the two of `w`.
 pub fn cell(l: &[u32], m: usize, x: usize, k: usize) -> u32
     requires { ⌜ (x * m + m ≤ length (now l)) × (k < m) ⌝ }
     ensures { λ r. ⌜ r ≡ getD (now (l .entry)) (x * m + k) 0 ⌝ }
@@ -529,6 +537,14 @@ pub fn set_cell(l: &mut [u32], m: usize, x: usize, k: usize, v: u32)
     l[x * m + k] = v;
 }
 
+// Save t saw this WCT of sheet k.
+pub fn set_seen(seen: &mut [u16], m: usize, t: usize, k: usize, c: u16)
+    requires { ⌜ (t * m + m ≤ length (now seen)) × (k < m) ⌝ }
+    ensures { λ _. ⌜ now (seen .exit) ≡ set (now (seen .entry)) (t * m + k) c ⌝ }
+{
+    seen[t * m + k] = c;
+}
+
 // ---- The start
 
 impl Session {
@@ -537,7 +553,7 @@ impl Session {
         b: &mut [u8],
         listed: &[u16],
         value: &[u32],
-        seen: &[u32],
+        seen: &[u16],
         w: &[u32],
         nodes: u8,
         owners: &[u8],

@@ -69,8 +69,14 @@ set-cell-requires c κs = let s = c .before .before .before .before .before .bef
     let i = in-range (s .args .m) (bytes (s .args .m) (s .args .b .now)) (s .args .t) (s .args .k) (c .before .before .before .before .before .before .before .before .before .before .before .before .barred .ensures) (c .before .before .before .before .before .before .before .before .before .before .before .if1 .left) in
     (row-in 32 (s .args .m) (s .args .value .now) (s .args .t) (i .0) (s .pre .2), i .1)
 
-set-cell-requires-2 : tie.Need-set-cell-requires-2
-set-cell-requires-2 c κs = let s = c .before .before .before .before .before .before .before .before .before .before .before .before .before .before .before .before .before .before .before .before .before .before in
+cast-set-seen : tie.Need-cast-set-seen
+cast-set-seen c = let s = c .before .before .before .before .before .before .before .before .before .before .before .before .before .before .before .before .before .before .before .before .before .before in
+    let i = in-range (s .args .m) (bytes (s .args .m) (s .args .b .now)) (s .args .t) (s .args .k) (c .before .before .before .before .before .before .before .before .before .before .before .before .before .before .before .before .barred .ensures) (c .before .before .before .before .before .before .before .before .before .before .before .before .before .before .before .if1 .left) in
+    let z = flat-in (s .args .m) (s .args .w .now) WCT (s .args .k) (i .1) in
+    omega (arith, s .pre .5 (s .args .k), z, c .before .before .before .before .before .cell3 .ensures)
+
+set-seen-requires : tie.Need-set-seen-requires
+set-seen-requires c κs = let s = c .before .before .before .before .before .before .before .before .before .before .before .before .before .before .before .before .before .before .before .before .before .before in
     let i = in-range (s .args .m) (bytes (s .args .m) (s .args .b .now)) (s .args .t) (s .args .k) (c .before .before .before .before .before .before .before .before .before .before .before .before .before .before .before .before .barred .ensures) (c .before .before .before .before .before .before .before .before .before .before .before .before .before .before .before .if1 .left) in
     (row-in 32 (s .args .m) (s .args .seen .now) (s .args .t) (i .0) (s .pre .3), i .1)
 
@@ -92,8 +98,8 @@ returns-4 : tie.Need-returns-4
 returns-4 c = let s = c .before .before .before .before .before .before .before .before .before .before .before .before .before .before .before .before .before .before .before .before .before .before .before .before .before .before .before .before .before in
     let i = in-range (s .args .m) (bytes (s .args .m) (s .args .b .now)) (s .args .t) (s .args .k) (c .before .before .before .before .before .before .before .before .before .before .before .before .before .before .before .before .before .before .before .before .before .before .before .barred .ensures) (c .before .before .before .before .before .before .before .before .before .before .before .before .before .before .before .before .before .before .before .before .before .before .if1 .left) in (
       (λ x. read-new (s .args .m) (bytes (s .args .m) (s .args .b .now)) (s .args .value .now) (s .args .seen .now) (s .args .w .now) (s .args .t) (s .args .k) (c .before .before .before .before .before .before .before .before .before .before .before .before .before .before .before .before .before .before .before .before .before .before .before .barred .ensures) (c .before .before .before .before .before .before .before .before .before .before .before .before .before .before .before .before .before .before .before .before .before .before .if1 .left) (sym (c .before .before .before .before .before .before .before .before .before .before .before .before .before .before .before .before .before .before .before .before .mark .ensures) ∙ c .before .before .before .before .before .before .before .before .before .before .before .before .before .before .before .before .before .before .before .if2 .left) (rw (c .before .before .before .before .before .before .before .before .before .before .before .before .before .before .before .before .before .phase .ensures) at (sym (c .before .before .before .before .before .before .before .before .before .before .before .before .before .before .before .blocked .ensures) ∙ c .before .before .before .before .before .before .before .before .before .before .before .before .before .before .if3 .left)) (s .pre .2) (s .pre .3) (s .pre .0 .shaped .whole .all MARK)
-          (c .before .before .before .before .before .before .before .before .before .before .before .before .before .cell2 .ensures ∙ sym (flat-in (s .args .m) (s .args .w .now) CONTENT (s .args .k) (i .1))) (c .before .before .before .before .before .before .before .before .before .before .before .before .cell3 .ensures ∙ sym (flat-in (s .args .m) (s .args .w .now) WCT (s .args .k) (i .1))) (c .before .before .set-mark .ensures) (c .before .before .before .before .before .before .before .before .before .before .set-cell .ensures) (c .before .before .before .before .before .before .set-cell2 .ensures)),
-      keeps-reading (s .args .m) (s .args .b .now) _ (s .args .value .now) _ _ _ _ (c .before .before .set-mark .ensures) (c .before .before .before .before .before .before .before .before .before .before .set-cell .ensures) (s .args .seen .now) _ (s .args .w .now) _ (c .before .before .before .before .before .before .set-cell2 .ensures),
+          (c .before .before .before .before .before .before .before .before .before .before .before .before .before .cell2 .ensures ∙ sym (flat-in (s .args .m) (s .args .w .now) CONTENT (s .args .k) (i .1))) (c .before .before .before .before .before .before .before .before .before .before .before .before .cell3 .ensures ∙ sym (flat-in (s .args .m) (s .args .w .now) WCT (s .args .k) (i .1))) (c .before .before .set-mark .ensures) (c .before .before .before .before .before .before .before .before .before .before .set-cell .ensures) (c .before .before .before .before .before .before .set-seen .ensures)),
+      keeps-reading (s .args .m) (s .args .b .now) _ (s .args .value .now) _ _ _ _ (c .before .before .set-mark .ensures) (c .before .before .before .before .before .before .before .before .before .before .set-cell .ensures) (s .args .seen .now) _ (s .args .w .now) _ (c .before .before .before .before .before .before .set-seen .ensures),
     )
 
 pub read-spec : {M : Type 1} → statement M
@@ -115,7 +121,8 @@ read-spec =
     cell-requires-2
     cell-requires-3
     set-cell-requires
-    set-cell-requires-2
+    cast-set-seen
+    set-seen-requires
     set-mark-requires
     same-length-5
     same-length-6

@@ -10,20 +10,23 @@ use borrow.Author.Needs.{needs}
 use Rattle.sheets.proofs.behind.Statement.{statement}
 use Rattle.sheets.proofs.behind.Tie as tie
 
-cell-requires : tie.Need-cell-requires
-cell-requires c κs =
+seen-at-requires : tie.Need-seen-at-requires
+seen-at-requires c κs =
     let s = c .before .before .before in
     (omega (arith, row-fits (s .args .m) (s .pre .4)), s .pre .3)
 
-cell-requires-2 : tie.Need-cell-requires-2
-cell-requires-2 c κs = search needs
+cast-s : tie.Need-cast-s
+cast-s c = search needs
+
+cell-requires : tie.Need-cell-requires
+cell-requires c κs = search needs
 
 returns : tie.Need-returns
 returns c =
     let s = c .before .before .before .before .before .before in
     let a = s .args in
-    sym (behind-read (bytes (a .m) (a .b .now)) (s .pre .3) (a .t) (a .seen .now) (a .w .now) (c .before .before .cell .ensures) (c .before .cell2 .ensures) refl
-    ∙ rw (le-ltb (c .before .before .cell .result) (c .before .cell2 .result) (omega arith), and-false))
+    sym (behind-read (bytes (a .m) (a .b .now)) (s .pre .3) (a .t) (a .seen .now) (a .w .now) (c .before .before .seen-at .ensures) (c .before .cell .ensures) refl
+    ∙ rw (le-ltb (c .before .before .seen-at .result) (c .before .cell .result) (omega arith), and-false))
 
 mark-requires : tie.Need-mark-requires
 mark-requires c κs = search needs
@@ -32,8 +35,8 @@ returns-2 : tie.Need-returns-2
 returns-2 c =
     let s = c .before .before .before .before .before .before .before in
     let a = s .args in
-    sym (behind-read (bytes (a .m) (a .b .now)) (s .pre .3) (a .t) (a .seen .now) (a .w .now) (c .before .before .before .cell .ensures) (c .before .before .cell2 .ensures) (c .mark .ensures)
-    ∙ rw (lt-ltb (c .before .before .before .cell .result) (c .before .before .cell2 .result) (omega arith), and-true))
+    sym (behind-read (bytes (a .m) (a .b .now)) (s .pre .3) (a .t) (a .seen .now) (a .w .now) (c .before .before .before .seen-at .ensures) (c .before .before .cell .ensures) (c .mark .ensures)
+    ∙ rw (lt-ltb (c .before .before .before .seen-at .result) (c .before .before .cell .result) (omega arith), and-true))
 
 pub behind-spec : {M : Type 1} → statement M
-behind-spec = tie.close (tie.spec cell-requires cell-requires-2 returns mark-requires returns-2)
+behind-spec = tie.close (tie.spec seen-at-requires cast-s cell-requires returns mark-requires returns-2)
