@@ -2,13 +2,14 @@
 ghost use Prim.Native.Nat.{_<_};
 ghost use mathlib.Core.Path.{_≡_};
 ghost use mathlib.Core.Bool.{cond, _&&_};
+ghost use lib.ListN.{getD};
 ghost use lib.Dec.{eqb};
 ghost use Rattle.rules.specs.Bytes.{Begin, Submit, Decide, GiveUp};
-ghost use Rattle.state.specs.Parts.{most-places, byte-sizes, hint-sizes, bytes, hints};
+ghost use Rattle.state.specs.Parts.{most-places, byte-sizes, hint-sizes, bytes, hints, FAILED};
 ghost use Rattle.state.specs.View.{placed, lined};
 ghost use Rattle.state.specs.Ready.{Whole, Ready, Hints};
 ghost use Rattle.state.specs.Lent.{own, listing, seen-by, Moves, Keeps};
-ghost use Rattle.saves.specs.Rows.{larger-of, claimed-row, raised-row, cleared-row, exceeds, wide-upto, Relisted, joined-in};
+ghost use Rattle.saves.specs.Rows.{larger-of, claimed-row, raised-row, cleared-row, exceeds, wide-upto, Relisted, joined-in, settled};
 ghost use Rattle.sheets.specs.Tests.{taken-everywhere, granted-everywhere};
 use state::ABSENT;
 use state::Answer;
@@ -230,7 +231,24 @@ fn decidable(b: &[u8], listed: &[u16], m: usize, t: u8) -> bool
     sheets::all_granted(b, listed, m, t)
 }
 
-// A save that did not fail is committed, from its first run or a later one; a failed one runs again.
+// Save t did not fail, and is committed; or it failed, and runs again. The answer is whether it is committed.
+fn settle(b: &mut [u8], m: usize, t: usize) -> bool
+    requires { ⌜ Ready m (bytes m (now b)) × (t < 32) ⌝ }
+    ensures { λ r. ⌜ r ≡ eqb (getD (bytes m (now (b .entry)) FAILED) t 0) 0 ⌝ }
+    ensures stored { λ _. ⌜ bytes m (now (b .exit)) ≡ settled m (bytes m (now (b .entry))) t ⌝ }
+{
+    let f = state::failed(b, m, t);
+    if f == 0 {
+        state::set_phase(b, m, t, COMMITTED);
+        return true;
+    }
+    state::enter_run(b, m, t, SECOND_RUN);
+    clear_row(b, m, t);
+    false
+}
+
+// A save that did not fail is committed, from its first run or a later one; a failed one runs again. The run is asked for first, so that every
+// way through has its own answer.
 pub fn decide(b: &mut [u8], listed: &[u16], m: usize, t: u8) -> Answer
     requires { ⌜ Ready m (bytes m (now b)) × Hints m (bytes m (now b)) (hints m (now listed)) ⌝ }
     ensures { λ r. ⌜ Moves m (own (now (b .entry))) (Decide t) (own (now (b .exit))) r ⌝ }
@@ -249,16 +267,17 @@ pub fn decide(b: &mut [u8], listed: &[u16], m: usize, t: u8) -> Answer
     if !g {
         return Answer::Refused(10);
     }
-    let f = state::failed(b, m, ti);
-    if f == 0 {
-        let r = state::runs(b, m, ti);
-        state::set_phase(b, m, ti, COMMITTED);
-        if 1 < r {
-            return Answer::CommitsLater;
+    let r = state::runs(b, m, ti);
+    if r <= 1 {
+        let c = settle(b, m, ti);
+        if c {
+            return Answer::Commits;
         }
-        return Answer::Commits;
+        return Answer::SecondRun;
     }
-    state::enter_run(b, m, ti, SECOND_RUN);
-    clear_row(b, m, ti);
+    let c = settle(b, m, ti);
+    if c {
+        return Answer::CommitsLater;
+    }
     Answer::SecondRun
 }
