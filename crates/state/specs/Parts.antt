@@ -94,9 +94,9 @@ CLAIM = 15
 abbrev pub EVER : ℕ
 EVER = 16
 
--- places that the order has room for: a place takes two commands of two bytes each
+-- places that the order has room for: a place takes three commands, of two bytes at least, and each save's first one less
 abbrev pub most-places : ℕ
-most-places = 4096
+most-places = 2752
 
 abbrev pub byte-sizes : ℕ → List ℕ
 byte-sizes m = 32 ∷ 32 ∷ 32 ∷ 32 ∷ 64 ∷ 16 ∷ 8 ∷ 8 ∷ 1 ∷ 1 ∷ 2 ∷ 256 ∷ most-places ∷ m ∷ 32 * m ∷ 32 * m ∷ m ∷ []

@@ -66,8 +66,8 @@ impl Session {
 
     pub const STORE: usize = 2 * Session::SHEETS;
 
-    // Places that the order has room for: a place takes two commands of two bytes each.
-    pub const PLACES: usize = 4096;
+    // Places that the order has room for: a place takes three commands, of two bytes at least, and each save's first one less.
+    pub const PLACES: usize = 2752;
 
     // Where the regions of the bytes start. Phases, failed marks, runs entered and last places go by save.
     const PHASE: usize = 0;
