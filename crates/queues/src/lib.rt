@@ -59,8 +59,8 @@ pub fn holds_x(b: &[u8], m: usize, k: usize) -> bool
     requires { ⌜ Ready m (bytes m (now b)) × Trimmed (bytes m (now b)) × Capped m (bytes m (now b)) × (k < m) ⌝ }
     ensures { λ r. ⌜ r ≡ holds (x-on (seen-by m (own (now (b .entry))) .claim) k) (seen-by m (own (now (b .entry))) .queue k) ⌝ }
 {
-    let e = state::ever(b, m, k);
-    if e < EXCLUSIVE {
+    let largest = state::ever(b, m, k);
+    if largest < EXCLUSIVE {
         return false;
     }
     let u = first(b, m, k, NO_SAVE, EXCLUSIVE);
