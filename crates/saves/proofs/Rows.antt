@@ -5,56 +5,53 @@ use mathlib.Core.Bool.{Bool, false, _||_, or-comm}
 use mathlib.Core.List.{List}
 use native.Mathlib.Omega.{arith}
 use native.Mathlib.Numerals.{add-one}
-use native.Mathlib.Nat.{zero-add}
+use native.Mathlib.Nat.{add-zero}
 use lib.ListN.{length, getD, set, length-set}
 use Rattle.rules.specs.Table.{any}
 use Rattle.state.specs.Parts.{Parts, byte-sizes, bytes, hint-sizes, hints, off, put, store, MARK, CLAIM, EVER, LISTED, MANY}
 use Rattle.state.specs.Ready.{Whole}
-use Rattle.state.proofs.Cells.{cell-in}
-use Rattle.state.proofs.Parts.{parts-get, parts-set, within, row-get, row-set, put-put, whole-put}
-use Rattle.state.proofs.Stores.{fill-out, fill-on}
-use Rattle.saves.specs.Rows.{larger-of, joined-at, claimed-row, raised-at, raised-row, cleared-row, exceeds, wide-upto, Relisted}
+use Rattle.state.proofs.Cells.{row-fits, cell-in}
+use Rattle.state.proofs.Parts.{parts-get, parts-fill, within, row-get, row-set, row-within, put-put, whole-put}
+use Rattle.state.proofs.Stores.{fill-out, fill-on, fill-cong}
+use Rattle.saves.specs.Rows.{larger-of, raised, joined-at, claimed-row, raised-at, raised-row, cleared-row, exceeds, wide-upto, Relisted}
 use Rattle.saves.proofs.Listing.{Listing, one-of, listing-on, listing-all}
 
--- the largest claims are in the bytes
-pub ever-in : {m : ℕ} (b : List ℕ) → Whole (byte-sizes m) (bytes m b) → (k : ℕ) → k < m → {to : ℕ} → to ≡ off (byte-sizes m) EVER → to + k < length b
-ever-in {m} b w k km et = rw et (within (byte-sizes m) b w EVER k km)
+-- ---- Bytes raised to the marks: a claim, or the largest claims
+
+-- a turn of the loop
+module _ (b₀ b : List ℕ) (m from to : ℕ) (apart : from + m ≤ to) (k : ℕ) (km : k < m) (e : b ≡ raised b₀ from to k) where
+  abbrev larger-at : ℕ → ℕ
+  larger-at j = larger-of (getD b₀ (to + j) 0) (getD b₀ (from + j) 0)
+
+  pub raise-on : {v : ℕ} → v ≡ larger-of (getD b (to + k) 0) (getD b (from + k) 0) → set b (to + k) v ≡ raised b₀ from to (k + 1)
+  raise-on {v} ev =
+      let r : v ≡ larger-at k = ev ∙ rw (e, fill-out larger-at to k b₀ (to + k) (λ j l q. omega arith), fill-out larger-at to k b₀ (from + k) (λ j l q. omega arith)) in
+      rw r (fill-on larger-at to k b₀ b e)
+
+module _ (m : ℕ) (b : List ℕ) (t : ℕ) (t32 : t < 32) {from to : ℕ} (ef : from ≡ off (byte-sizes m) MARK + t * m) where
+  module _ (et : to ≡ off (byte-sizes m) CLAIM + t * m) where
+    pub claims-fit : Whole (byte-sizes m) (bytes m b) → (from + m ≤ to) × ((k : ℕ) → k < m → to + k < length b)
+    claims-fit w = (rw (ef, et) (omega arith), λ k l. row-within (byte-sizes m) b CLAIM m t k et (cell-in m t32 l) w)
+
+    pub claims-raised : {b′ : List ℕ} → b′ ≡ raised b from to m → bytes m b′ ≡ claimed-row m (bytes m b) t m
+    claims-raised e = rw (e, et)
+        (parts-fill (byte-sizes m) b CLAIM (t * m) _ m (row-fits m t32)
+        ∙ ap (put (bytes m b) CLAIM) (fill-cong _ (joined-at m (bytes m b) t) (t * m) m (bytes m b CLAIM)
+        (λ j l. rw (row-get (byte-sizes m) b CLAIM m t j refl (cell-in m t32 l), row-get (byte-sizes m) b MARK m t j ef (cell-in m t32 l)))))
+
+  module _ (et : to ≡ off (byte-sizes m) EVER) where
+    pub evers-fit : Whole (byte-sizes m) (bytes m b) → (from + m ≤ to) × ((k : ℕ) → k < m → to + k < length b)
+    evers-fit w = (rw (ef, et) (omega (arith, row-fits m t32)), λ k l. rw et (within (byte-sizes m) b w EVER k l))
+
+    pub evers-raised : {b′ : List ℕ} → b′ ≡ raised b from to m → bytes m b′ ≡ raised-row m (bytes m b) t m
+    evers-raised e = rw (e, et)
+        (rw add-zero at (parts-fill (byte-sizes m) b EVER 0 (λ j. larger-of (getD b (off (byte-sizes m) EVER + j) 0) (getD b (from + j) 0)) m (omega arith))
+        ∙ ap (put (bytes m b) EVER) (fill-cong _ (raised-at m (bytes m b) t) 0 m (bytes m b EVER)
+        (λ j l. rw (parts-get (byte-sizes m) b EVER j l, row-get (byte-sizes m) b MARK m t j ef (cell-in m t32 l)))))
+
+-- ---- A row cleared
 
 module _ (m : ℕ) (b₀ b : List ℕ) (t k : ℕ) (t32 : t < 32) (km : k < m) {from : ℕ} (ef : from ≡ off (byte-sizes m) MARK + t * m) where
-  module _ {to : ℕ} (et : to ≡ off (byte-sizes m) CLAIM + t * m) (e : bytes m b ≡ claimed-row m (bytes m b₀) t k) where
-    -- neither the mark nor the claim at k has changed yet
-    mark-there : getD b (from + k) 0 ≡ getD (bytes m b₀ MARK) (t * m + k) 0
-    mark-there = row-get (byte-sizes m) b MARK m t k ef (cell-in m t32 km) ∙ rw e
-
-    claim-there : getD b (to + k) 0 ≡ getD (bytes m b₀ CLAIM) (t * m + k) 0
-    claim-there =
-        row-get (byte-sizes m) b CLAIM m t k et (cell-in m t32 km)
-        ∙ rw e (fill-out (joined-at m (bytes m b₀) t) (t * m) k (bytes m b₀ CLAIM) (t * m + k) (λ j l q. omega arith))
-
-    pub claim-on : {v : ℕ} → v ≡ larger-of (getD b (to + k) 0) (getD b (from + k) 0) → bytes m (set b (to + k) v) ≡ claimed-row m (bytes m b₀) t (k + 1)
-    claim-on {v} ev =
-        let r : v ≡ joined-at m (bytes m b₀) t k = ev ∙ rw (claim-there, mark-there) in
-        row-set (byte-sizes m) b CLAIM m t k et (cell-in m t32 km) v
-        ∙ rw (r, e)
-        (put-put (bytes m b₀) CLAIM _ _
-        ∙ ap (put (bytes m b₀) CLAIM) (fill-on (joined-at m (bytes m b₀) t) (t * m) k (bytes m b₀ CLAIM) _ refl))
-
-  module _ {to : ℕ} (et : to ≡ off (byte-sizes m) EVER) (e : bytes m b ≡ raised-row m (bytes m b₀) t k) where
-    -- neither the mark nor the largest claim at k has changed yet
-    mark-then : getD b (from + k) 0 ≡ getD (bytes m b₀ MARK) (t * m + k) 0
-    mark-then = row-get (byte-sizes m) b MARK m t k ef (cell-in m t32 km) ∙ rw e
-
-    ever-there : getD b (to + k) 0 ≡ getD (bytes m b₀ EVER) k 0
-    ever-there = _∙_ {b = getD (bytes m b EVER) k 0} (rw et (parts-get (byte-sizes m) b EVER k km)) (rw e (fill-out (raised-at m (bytes m b₀) t) 0 k (bytes m b₀ EVER) k (λ j l q. omega arith)))
-
-    pub raise-on : {v : ℕ} → v ≡ larger-of (getD b (to + k) 0) (getD b (from + k) 0) → bytes m (set b (to + k) v) ≡ raised-row m (bytes m b₀) t (k + 1)
-    raise-on {v} ev =
-        let r : v ≡ raised-at m (bytes m b₀) t k = ev ∙ rw (ever-there, mark-then) in
-        let z : bytes m (set b (to + k) v) ≡ store (bytes m b) EVER k v = rw et (parts-set (byte-sizes m) b EVER k km v) in
-        z ∙ rw (r, e)
-        (put-put (bytes m b₀) EVER _ _
-        ∙ ap (put (bytes m b₀) EVER) (rw (zero-add k) at (fill-on (raised-at m (bytes m b₀) t) 0 k (bytes m b₀ EVER) _ refl)))
-
   pub clear-on : bytes m b ≡ cleared-row m (bytes m b₀) t k → bytes m (set b (from + k) 0) ≡ cleared-row m (bytes m b₀) t (k + 1)
   clear-on e =
       row-set (byte-sizes m) b MARK m t k ef (cell-in m t32 km) 0

@@ -1,15 +1,15 @@
 // The commands that move a save on: BEGIN, SUBMIT, DECIDE and GIVE UP. Each does what its rule says.
-ghost use Prim.Native.Nat.{_<_};
+ghost use Prim.Native.Nat.{_+_, _≤_, _<_};
 ghost use mathlib.Core.Path.{_≡_};
 ghost use mathlib.Core.Bool.{cond, _&&_};
-ghost use lib.ListN.{getD};
+ghost use lib.ListN.{length, getD};
 ghost use lib.Dec.{eqb};
 ghost use Rattle.rules.specs.Bytes.{Begin, Submit, Decide, GiveUp};
 ghost use Rattle.state.specs.Parts.{most-places, byte-sizes, hint-sizes, bytes, hints, FAILED};
 ghost use Rattle.state.specs.View.{placed, lined};
 ghost use Rattle.state.specs.Ready.{Whole, Ready, Hints};
 ghost use Rattle.state.specs.Lent.{own, listing, seen-by, Moves, Keeps};
-ghost use Rattle.saves.specs.Rows.{larger-of, claimed-row, raised-row, cleared-row, exceeds, wide-upto, Relisted, joined-in, settled};
+ghost use Rattle.saves.specs.Rows.{larger-of, raised, claimed-row, raised-row, cleared-row, exceeds, wide-upto, Relisted, joined-in, settled};
 ghost use Rattle.sheets.specs.Tests.{taken-everywhere, granted-everywhere};
 use state::ABSENT;
 use state::Answer;
@@ -72,29 +72,11 @@ fn larger(c: u8, x: u8) -> u8
     c
 }
 
-// Save t's claim is joined with its marks.
-fn claim_row(b: &mut [u8], m: usize, t: usize)
-    requires { ⌜ Whole (byte-sizes m) (bytes m (now b)) × (m < 65536) × (t < 32) ⌝ }
-    ensures { λ _. ⌜ bytes m (now (b .exit)) ≡ claimed-row m (bytes m (now (b .entry))) t m ⌝ }
+// Each of the m bytes from `to` on becomes the larger of itself and its fellow from `from` on.
+fn raise(b: &mut [u8], m: usize, from: usize, to: usize)
+    requires { ⌜ (from + m ≤ to) × ((k : _) → k < m → to + k < length (now b)) ⌝ }
+    ensures { λ _. ⌜ now (b .exit) ≡ raised (now (b .entry)) from to m ⌝ }
 {
-    let from = state::marks(m, t);
-    let to = state::claims(m, t);
-    let mut k: usize = 0;
-    while k < m {
-        let x = b[from + k];
-        let c = b[to + k];
-        b[to + k] = larger(c, x);
-        k += 1;
-    }
-}
-
-// The largest claims that any save ever had are raised to save t's marks.
-fn raise_row(b: &mut [u8], m: usize, t: usize)
-    requires { ⌜ Whole (byte-sizes m) (bytes m (now b)) × (m < 65536) × (t < 32) ⌝ }
-    ensures { λ _. ⌜ bytes m (now (b .exit)) ≡ raised-row m (bytes m (now (b .entry))) t m ⌝ }
-{
-    let from = state::marks(m, t);
-    let to = state::evers(m);
     let mut k: usize = 0;
     while k < m {
         let x = b[from + k];
@@ -132,7 +114,8 @@ fn list_row(b: &[u8], listed: &mut [u16], m: usize, t: usize)
     state::set_many(listed, m, t, c as u16);
 }
 
-// Save t, which is not in line, joins the end of the order and of the line with its new claim, not failed.
+// Save t, which is not in line, joins the end of the order and of the line with its new claim, not failed: its claim, and the largest claims that
+// any save ever had, are raised to its marks.
 fn join(b: &mut [u8], listed: &mut [u16], m: usize, t: u8)
     requires { ⌜
         Whole (byte-sizes m) (bytes m (now b)) × Whole (hint-sizes m) (hints m (now listed)) × (m < 65536) × (t < 32)
@@ -142,8 +125,11 @@ fn join(b: &mut [u8], listed: &mut [u16], m: usize, t: u8)
     ensures lists { λ _. ⌜ Relisted m (claimed-row m (raised-row m (bytes m (now (b .entry))) t m) t m) (hints m (now (listed .entry))) t (hints m (now (listed .exit))) ⌝ }
 {
     let ti = t as usize;
-    raise_row(b, m, ti);
-    claim_row(b, m, ti);
+    let marks = state::marks(m, ti);
+    let evers = state::evers(m);
+    let claims = state::claims(m, ti);
+    raise(b, m, marks, evers);
+    raise(b, m, marks, claims);
     list_row(b, listed, m, ti);
     state::set_failed(b, m, ti, 0);
     state::set_phase(b, m, ti, SUBMITTED);

@@ -1,6 +1,6 @@
 -- A store to a place of a region leaves the other regions alone, whatever their sizes.
 use Prim.Native.Nat.{ℕ, zero, suc, _+_, _*_, _-_, _≤_, _<_}
-use mathlib.Core.Path.{_≡_, refl, fun-ext}
+use mathlib.Core.Path.{_≡_, refl, fun-ext, _∙_}
 use mathlib.Core.List.{List}
 use native.Mathlib.Omega.{arith}
 use native.Mathlib.Nat.{not-suc-le-zero, le-refl, min-le-right}
@@ -9,6 +9,7 @@ use lib.Seq.{getD-take, getD-drop, take-set-lt, take-set-le, drop-set-lt, drop-s
 use borrow.Author.Tests.{eq-eqb, ne-eqb}
 use Rattle.rules.proofs.Table.{same?, below?}
 use Rattle.state.specs.Parts.{Parts, parts, size, off, all-of, put, store}
+use Rattle.state.specs.Fill.{fill}
 use Rattle.state.specs.Ready.{Whole}
 use Rattle.state.proofs.Tables.{past}
 
@@ -82,3 +83,12 @@ put-same d r = fun-ext (λ q. same? q r (λ e. rw (e, eq-eqb r r refl)) (λ n. r
 
 pub put-put : (d : Parts) (r : ℕ) (l m : List ℕ) → put (put d r l) r m ≡ put d r m
 put-put d r l m = fun-ext (λ q. same? q r (λ e. rw (e, eq-eqb r r refl)) (λ n. rw (ne-eqb q r n)))
+
+-- a run of a region's places is stored, as a loop does it
+pub parts-fill : (z b : List ℕ) (r i : ℕ) (f : ℕ → ℕ) (n : ℕ) → i + n ≤ size z r → parts z (fill f (off z r + i) n b) ≡ put (parts z b) r (fill f i n (parts z b r))
+unfolding fill
+parts-fill z b r i f zero h = put-same (parts z b) r
+parts-fill z b r i f (suc n) h =
+    let e : off z r + i + n ≡ off z r + (i + n) = omega arith in
+    let s : parts z (set (fill f (off z r + i) n b) (off z r + i + n) (f n)) ≡ store (parts z (fill f (off z r + i) n b)) r (i + n) (f n) = rw e (parts-set z (fill f (off z r + i) n b) r (i + n) (omega arith) (f n)) in
+    s ∙ rw (parts-fill z b r i f n (omega arith), eq-eqb r r refl) (put-put (parts z b) r (fill f i n (parts z b r)) (set (fill f i n (parts z b r)) (i + n) (f n)))
