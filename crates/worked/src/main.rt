@@ -91,7 +91,7 @@ fn run() {
     let mut b = [0u8; Session::BYTES];
     let mut listed = [0u16; Session::LISTS];
     let mut value = [0u32; Session::COPIES];
-    let mut seen = [0u32; Session::COPIES];
+    let mut seen = [0u16; Session::COPIES];
     let mut w = [0u32; Session::STORE];
     let owners: [u8; 2] = [0, 1];
     Session::fresh(&mut b, &listed, &value, &seen, &w, 2, &owners);
