@@ -11,6 +11,7 @@ use Rattle.rules.specs.Bytes.{Command}
 use Rattle.rules.specs.State.{Tally, State, is-first, is-second, fresh, wide-by, at}
 use Rattle.rules.specs.Steps.{x-on, step}
 use Rattle.rules.proofs.Table.{all-at, and-l, and-r}
+use Rattle.state.specs.Parts.{most-places}
 use Rattle.state.specs.declared.Answer.{Answer}
 use Rattle.state.specs.View.{advanced}
 use Rattle.state.specs.Lent.{Steps}
@@ -51,9 +52,9 @@ module _ (n : ℕ) (h : n < 17) where
       ltb-true (s .place t) (length (s .order)) (and-l (ltb (s .place t) (length (s .order))) (eqb (at (s .order) (s .place t)) t) y),
       eqb-true (at (s .order) (s .place t)) t (and-r (ltb (s .place t) (length (s .order))) (eqb (at (s .order) (s .place t)) t) y),
     );
-    room = λ t l f. ltb-true (length (s .order)) 4096 (once-each (λ s. ltb (length (s .order)) 4096) refl n h);
+    room = λ t l f. ltb-true (length (s .order)) most-places (once-each (λ s. ltb (length (s .order)) most-places) refl n h);
     runs = λ t l. ltb-true (s .runs t) 255 (each (λ s. 32) (λ s t. ltb (s .runs t) 255) refl n h t l);
-    rises = λ k l. ltb-true (s .sheet k .wct) 4294967295 (each (λ s. s .header .sheets) (λ s k. ltb (s .sheet k .wct) 4294967295) refl n h k l);
+    rises = λ k l. ltb-true (s .sheet k .wct) 65535 (each (λ s. s .header .sheets) (λ s k. ltb (s .sheet k .wct) 65535) refl n h k l);
   }
 
 -- one step on
