@@ -179,7 +179,7 @@ pub fn all_granted(b: &[u8], listed: &[u16], m: usize, t: u8) -> bool
 }
 
 // Save t claims a sheet of node n.
-pub fn claims_here(b: &[u8], listed: &[u16], m: usize, n: u8, t: u8) -> bool
+fn claims_here(b: &[u8], listed: &[u16], m: usize, n: u8, t: u8) -> bool
     requires { ⌜ Ready m (bytes m (now b)) × Hints m (bytes m (now b)) (hints m (now listed)) × (t < 32) ⌝ }
     ensures { λ r. ⌜ r ≡ claims-at (seen-by m (own (now (b .entry)))) n t ⌝ }
 {

@@ -606,6 +606,49 @@ fn a_node_that_lags_behind_many_former_places() {
     assert!(keeps(&session).lagging > 4);
 }
 
+#[test]
+fn a_wide_run_is_one_more_place_of_the_bound_and_not_one_more_step() {
+    // Save 0 writes sheet 0 and is carried out. Three saves have read it, fail, and open the sheets of all four
+    // nodes, of which only the first has taken anything yet.
+    let mut session = bytes("04 04 00 01 02 03");
+    for save in 0..4 {
+        session.extend([1, save, 2, save, 0]);
+    }
+    session.extend([3, 0, 0, 0, 0, 0, 1]);
+    for save in 0..4 {
+        session.extend([4, save, 5, 0]);
+    }
+    session.extend([6, 0, 7, 0, 0]);
+    for save in 1..4 {
+        session.extend([6, save, 2, save, 0, 2, save, 1, 2, save, 2, 2, save, 3]);
+        session.extend([3, save, 1, 0, 0, 0, save]);
+    }
+    let before = answers(&session).len();
+    let engine = end_of(&session);
+    let wide =
+        engine.saves.iter().filter(|save| save.phase == Phase::SecondRun && save.wide()).count();
+    assert_eq!((engine.order.len(), wide), (4, 3));
+    // All of them go through the order once more; the second and the third fail again by an X on sheet 1.
+    for save in 1..4 {
+        session.extend([4, save, 5, 0]);
+    }
+    for node in 1..4 {
+        session.extend([[5, node]; 7].concat());
+    }
+    for save in 1..4 {
+        session.extend([6, save]);
+        if save > 1 {
+            session.extend([4, save]);
+        }
+        session.extend([7, 0, save, 7, 1, save, 7, 2, save, 7, 3, save]);
+    }
+    assert_eq!(Session::run(&session).refused, None);
+    let steps = answers(&session).len() - before;
+    let each_place = 2 * 4 + 2;
+    assert_eq!((steps, each_place * 4 + 3, each_place * (4 + 3)), (44, 43, 70));
+    keeps(&session);
+}
+
 /// The clause that the check names after this step, where the state that follows it is harmed so.
 fn clause(session: &[u8], harm: impl FnOnce(&mut Engine)) -> String {
     let run = Session::run(session);
