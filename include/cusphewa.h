@@ -23,10 +23,10 @@ enum {
     CUSPHEWA_NO_COMMAND = 0,
     CUSPHEWA_ACCEPTED = 1,
     CUSPHEWA_CONTENT = 2,       /* READ: the content is the value */
-    CUSPHEWA_TAKE_VALID = 3,    /* TAKE: the save is the value */
+    CUSPHEWA_TAKE_VALID = 3,    /* TAKE: the save is the value; also at a former place of it */
     CUSPHEWA_TAKE_INVALID = 4,  /* TAKE: the value is sheet * 2^16 + save, of the first cause; the number is its rule */
     CUSPHEWA_COMMITTED = 5,     /* DECIDE */
-    CUSPHEWA_SECOND_RUN = 6,    /* DECIDE */
+    CUSPHEWA_SECOND_RUN = 6,    /* DECIDE: the save runs again, for the second time or a later one */
     CUSPHEWA_REFUSED = 7,       /* the offset is the value, the refusal the number */
     CUSPHEWA_WRITTEN = 8,       /* cusphewa_write: the number of bytes is the value */
     CUSPHEWA_LISTED = 9         /* cusphewa_read: the value is nodes * 2^32 + sheets * 2^16 + steps */
