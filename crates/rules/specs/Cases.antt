@@ -306,7 +306,7 @@ twice =
 
 abbrev pub widened : List Case
 widened =
-    -- wide by a new sheet; node 1 passes the former places 0 and 1 and finds save 1 valid there
+    -- wide by a new sheet; node 1 takes save 0 at place 0, passes save 1's former place 1 and finds it valid there
     case (at-two ++ opened) (answers accepted) "" "P 0 1 C\nP 1 2 U\nO 0 1 1\nO 1 0 0\nT 14 1 0\n"
     ∷ case (at-two ++ opened ++ "05 01  05 01") (answers (took 1 valid)) "" "P 0 1 C\nP 1 2 U\nO 0 1 1\nO 1 0 0\nT 16 1 0\n"
     -- the new claim's owners must have taken the last place: one has not; the other has taken the former one only
