@@ -36,11 +36,11 @@ pub mem-snoc : (t : ℕ) (l : List ℕ) (u : ℕ) → mem t (l ++ u ∷ []) ≡ 
 mem-snoc t [] u = or-false (eqb u t)
 mem-snoc t (x ∷ l) u = rw (mem-snoc t l u) (bool (eqb x t) (λ e. rw e) (λ e. rw e))
 
-before-in : (t : ℕ) (l : List ℕ) (u : ℕ) → mem t l ≡ true → before t (l ++ u ∷ []) ≡ before t l
+pub before-in : (t : ℕ) (l : List ℕ) (u : ℕ) → mem t l ≡ true → before t (l ++ u ∷ []) ≡ before t l
 before-in t [] u e = absurd (true≢false (sym e))
 before-in t (x ∷ l) u e = bool (eqb x t) (λ q. rw q) (λ q. rw (q, before-in t l u (rw q at e)))
 
-before-end : (t : ℕ) (l : List ℕ) → mem t l ≡ false → before t (l ++ t ∷ []) ≡ l
+pub before-end : (t : ℕ) (l : List ℕ) → mem t l ≡ false → before t (l ++ t ∷ []) ≡ l
 before-end t [] e = rw (eq-eqb t t refl)
 before-end t (x ∷ l) e = bool (eqb x t) (λ q. absurd (true≢false (rw q at e))) (λ q. rw (q, before-end t l (rw q at e)))
 

@@ -12,7 +12,10 @@ pub mod Changes
 pub mod Calls
 pub mod Eight
 pub mod Writing
+pub mod Answers
 pub mod Report
+pub mod Showing
 pub mod Neighbours
 pub mod Cases
 pub mod WritingCases
+pub mod ShowingCases

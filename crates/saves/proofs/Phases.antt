@@ -68,7 +68,7 @@ module _ {m : ℕ} {d : Parts} (ready : Ready m d) (t : ℕ) (t32 : t < 32) {p :
       (λ tally. refl)
 
   -- the rules' test of a wide run
-  wide-code : {w : Bool} → w ≡ wide-upto m d t m → (x : Slices) (tally : Tally) → wide (view m d (x .value) (x .seen) (x .sheets) tally) t ≡ w
+  pub wide-code : {w : Bool} → w ≡ wide-upto m d t m → (x : Slices) (tally : Tally) → wide (view m d (x .value) (x .seen) (x .sheets) tally) t ≡ w
   unfolding wide-by
   wide-code ew x tally = sym (ew ∙ any-cong m _ _ (λ k h. sym (rw (flat-in m (d CLAIM) t k h, flat-in m (d MARK) t k h) (wider-code (getD (d CLAIM) (t * m + k) 0) (getD (d MARK) (t * m + k) 0)))))
 

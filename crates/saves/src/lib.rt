@@ -145,7 +145,7 @@ fn exceeds(c: u8, x: u8) -> bool
 }
 
 // Save t's run is wide: one of its marks asks for more than its claim. All sheets are looked at, so that the loop has no branch.
-fn is_wide(b: &[u8], m: usize, t: usize) -> bool
+pub fn is_wide(b: &[u8], m: usize, t: usize) -> bool
     requires { ⌜ Whole (byte-sizes m) (bytes m (now b)) × (m < 65536) × (t < 32) ⌝ }
     ensures { λ r. ⌜ r ≡ wide-upto m (bytes m (now (b .entry))) t m ⌝ }
 {

@@ -30,7 +30,7 @@ fn decimal(buf: &mut [u8], at: usize, n: u32) -> usize
 }
 
 // A blank and a number.
-fn field(buf: &mut [u8], at: usize, n: u32) -> usize
+pub fn field(buf: &mut [u8], at: usize, n: u32) -> usize
     requires { ⌜ at + 11 ≤ length (now buf) ⌝ }
     ensures { λ r. ⌜ Wrote (now (buf .entry)) at (rules.field n) 11 r (now (buf .exit)) ⌝ }
 {

@@ -2,8 +2,7 @@
 use mathlib.Core.Path.{_≡_, refl, ap}
 use mathlib.Core.List.{List, [], _∷_}
 use mathlib.Core.Option.{Option, none, some}
-use Prim.Native.Nat.{ℕ, zero, suc, _+_, _-_, _≤_}
-use native.Mathlib.Nat.{add-zero, add-suc, suc-add}
+use Prim.Native.Nat.{ℕ, suc, _+_, _-_, _≤_}
 use native.Mathlib.Numerals.{add-one}
 use native.Mathlib.Omega.{arith}
 use borrow.Author.Tests.{ltb-false}
@@ -13,14 +12,8 @@ use lib.Seq.{drop-drop}
 use Rattle.rules.specs.Bytes.{Command, Form, Front, unknown, cut, whole, widths, values, front-by, front, form-of, commands, ended, stopped, more, read-from}
 use Rattle.rules.proofs.Table.{bool}
 use Rattle.rules.proofs.Writing.{in-table}
+use Rattle.rules.proofs.Answers.{skip}
 use Rattle.wire.specs.Meaning.{front-in}
-
--- operand bytes are passed over
-pub skip : (n p : ℕ) (bs : List ℕ) → read-from n p bs ≡ read-from 0 (p + n) (drop n bs)
-unfolding read-from
-skip zero p bs = rw add-zero
-skip (suc n) p [] = refl
-skip (suc n) p (b ∷ bs) = rw (add-suc, ← suc-add p n) (skip n (suc p) bs)
 
 -- a whole command has its operands
 abbrev Within : ℕ → Front → Type 0

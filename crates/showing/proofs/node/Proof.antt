@@ -1,0 +1,42 @@
+-- The line's start, the line's end.
+use native.Mathlib.Omega.{arith}
+use Rattle.rules.specs.Showing.{node-line-of}
+use Rattle.text.proofs.Writing.{wrote-then}
+use Rattle.clipped.proofs.Laws.{wrote-within}
+use borrow.Author.Needs.{needs}
+use Rattle.showing.proofs.node.Statement.{statement}
+use Rattle.showing.proofs.node.Tie as tie
+
+taken-requires : tie.Need-taken-requires
+taken-requires c κs = search needs
+
+cast-line-start : tie.Need-cast-line-start
+cast-line-start c = search needs
+
+cast-line-start-2 : tie.Need-cast-line-start-2
+cast-line-start-2 c = search needs
+
+line-start-requires : tie.Need-line-start-requires
+line-start-requires c κs = search needs
+
+put-requires : tie.Need-put-requires
+put-requires c κs = search needs
+
+same-length : tie.Need-same-length
+same-length c = search needs
+
+returns : tie.Need-returns
+unfolding node-line-of
+returns c = wrote-within (rw (c .before .before .before .before .before .before .before .before .taken .ensures)) (omega arith) (wrote-then (c .before .before .before .before .before .before .line-start .ensures) (c .before .before .put .ensures))
+
+pub node-spec : {M : Type 1} → statement M
+node-spec =
+    tie.close
+    (tie.spec
+    taken-requires
+    cast-line-start
+    cast-line-start-2
+    line-start-requires
+    put-requires
+    same-length
+    returns)
