@@ -27,7 +27,8 @@ use Rattle.session.specs.declared.Ended.{Ended}
 use Rattle.session.specs.Meaning.{stop-of, reply-of}
 use Rattle.session.specs.Carried.{Within, Answered}
 use Rattle.session.proofs.Lines.{within-less}
-use Rattle.cusphewa.specs.Codes.{answer-code, part-code, Near, NearReply}
+use Rattle.codes.specs.Codes.{answer-code, NearReply}
+use Rattle.cusphewa.specs.Codes.{part-code, Near}
 
 -- ---- Where a run stops
 
@@ -115,11 +116,8 @@ near-end n s q w = rw q at w
 pub near-part : (n : ℕ) (s : Stop) (p c k : ℕ) → s ≡ Refused p c k → Near n s → p + k ≤ 16384
 near-part n s p c k q w = rw q at w
 
-pub near-refused : (r : Reply) (p c : ℕ) → r ≡ reply.Refused p c → NearReply r → p ≤ 16384
-near-refused r p c q w = rw q at w
-
-pub told : (b : List ℕ) (r x : Reply) {n : ℕ} → reply-of r ≡ calls.reply b → r ≡ x → n ≡ answer-code (reply-of x) → (n ≡ answer-code (calls.reply b)) × WhyFailed
-told b r x e q c = (c ∙ ap answer-code (ap reply-of (sym q) ∙ e), why-failed)
+pub told : (b : List ℕ) (r : Reply) {n : ℕ} → reply-of r ≡ calls.reply b → n ≡ answer-code (reply-of r) → (n ≡ answer-code (calls.reply b)) × WhyFailed
+told b r e c = (c ∙ ap answer-code e, why-failed)
 
 -- ---- The buffer
 

@@ -1,37 +1,15 @@
--- Answers and parts as numbers, for the host.
+-- Parts, and the answers of writing and reading, as numbers, for the host.
 use Prim.Native.Nat.{ℕ, _+_, _*_, _≤_, min}
-use mathlib.Core.List.{List}
-use Rattle.rules.specs.Steps.{Rule, x-granted, x-waiting, counter-behind, Verdict, valid, invalid, accepted, content-is, took, commits, second-run}
-use Rattle.rules.specs.Calls as calls
-use Rattle.rules.specs.Calls.{no-command, answers, refusal, Part}
+use mathlib.Core.Bool.{Bool, true, false}
+use mathlib.Core.List.{List, map}
+use lib.ListN.{length}
+use Rattle.rules.specs.Bytes.{opens}
+use Rattle.rules.specs.Calls.{Part}
 use Rattle.rules.specs.Writing as lists
+use Rattle.rules.specs.Answers.{session-replies}
 use Rattle.session.specs.declared.Stop.{Stop}
 use Rattle.session.specs.declared.Stop.the-variants.{End, Refused}
-use Rattle.session.specs.declared.Reply.{Reply}
-use Rattle.session.specs.declared.Reply.the-variants as reply
-
--- kind * 2^48 + value * 2^8 + number
-abbrev pub coded : (kind value number : ℕ) → ℕ
-coded kind value number = kind * 281474976710656 + value * 256 + number
-
-abbrev pub rule-code : Rule → ℕ
-rule-code x-granted = 1
-rule-code x-waiting = 2
-rule-code counter-behind = 3
-
--- what a node found save t: the value is sheet * 2^16 + save where there is a cause
-abbrev pub verdict-code : ℕ → Verdict → ℕ
-verdict-code t valid = coded 3 t 0
-verdict-code t (invalid c) = coded 4 (c .sheet * 65536 + t) (rule-code (c .rule))
-
-abbrev pub answer-code : calls.Reply → ℕ
-answer-code no-command = coded 0 0 0
-answer-code (answers accepted) = coded 1 0 0
-answer-code (answers (content-is v)) = coded 2 v 0
-answer-code (answers (took t v)) = verdict-code t v
-answer-code (answers commits) = coded 5 0 0
-answer-code (answers second-run) = coded 6 0 0
-answer-code (refusal p n) = coded 7 p n
+use Rattle.codes.specs.Codes.{coded, answer-code}
 
 -- offset * 2^32 + size
 abbrev pub part-code : Part → ℕ
@@ -56,18 +34,19 @@ pub record Told : Type 0 where
 abbrev pub told-call : lists.Call → Told
 told-call c = record { code = outcome-code (c .outcome); room = c .room }
 
+-- ---- Every answer
+
+-- the answers' numbers at the front of the room: 1, then 15, which says how many there are; nothing is written
+abbrev pub answers-if : (opens : Bool) → (session room : List ℕ) → lists.Call
+answers-if true b room = lists.put (length (session-replies b)) (lists.wrote (length (session-replies b))) (map answer-code (session-replies b)) room
+answers-if false b room = record { outcome = lists.refuse-with (lists.at 0 1); room = room }
+
+unfoldable pub answers-call : (session room : List ℕ) → lists.Call
+answers-call b room = answers-if (opens b) b room
+
 -- ---- Sizes that fit the numbers
 
 -- a run that stops at its end had a session of at most 16,384 bytes, and so had one that stops at a refusal
 abbrev pub Near : ℕ → Stop → Type 0
 Near n End = n ≤ 16384
 Near n (Refused p c k) = p + k ≤ 16384
-
-abbrev pub NearReply : Reply → Type 0
-NearReply reply.NoCommand = Unit {0}
-NearReply reply.Accepted = Unit {0}
-NearReply (reply.Content v) = Unit {0}
-NearReply (reply.Took t v) = Unit {0}
-NearReply reply.Commits = Unit {0}
-NearReply reply.SecondRun = Unit {0}
-NearReply (reply.Refused p c) = p ≤ 16384

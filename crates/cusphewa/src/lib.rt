@@ -1,11 +1,12 @@
-// The calls on a session: its report, its answer, the part that is shown; writing a session and reading it back.
+// The calls on a session: its report, its answer, the part that is shown; writing a session and reading it back; its state as text, and every
+// command's answer.
+use answers::Told;
 use listing::Listed;
 use session::Ended;
 use session::MIN_BUFFER;
 use session::Reply;
 use session::Stop;
-use state::Rule;
-use state::Verdict;
+use states::Shown;
 use wire::Opened;
 use writing::Written;
 ghost use mathlib.Core.Path.{_≡_};
@@ -19,12 +20,15 @@ ghost use Rattle.rules.specs.Causes.{WhyFailed};
 ghost use Rattle.rules.specs.Calls as calls;
 ghost use Rattle.rules.specs.Report as rules;
 ghost use Rattle.rules.specs.Writing as lists;
+ghost use Rattle.rules.specs.Answers.{EachPrefix};
+ghost use Rattle.rules.specs.Showing.{GrantedAlone, state-call};
+ghost use Rattle.states.specs.Meaning.{ShortText};
 ghost use Rattle.wire.specs.Meaning.{opened};
 ghost use Rattle.wire.specs.declared.Opened.the-variants.{Header};
 ghost use Rattle.session.specs.Meaning.{stop-of, reply-of};
 ghost use Rattle.session.specs.Carried.{Within, Answered};
-ghost use Rattle.state.specs.View.{rule-of, verdict-of};
-ghost use Rattle.cusphewa.specs.Codes.{coded, rule-code, verdict-code, answer-code, part-code, told-call, last-place, Near, NearReply};
+ghost use Rattle.codes.specs.Codes.{answer-code, NearReply};
+ghost use Rattle.cusphewa.specs.Codes.{part-code, told-call, answers-call, last-place, Near};
 ghost use Rattle.writing.specs.Meaning.{heading-of};
 
 // ---- The report
@@ -117,55 +121,13 @@ pub fn shown(session: &[u8]) -> &[u8]
 
 // ---- Numbers for the host
 
-// A kind, a value and a number in one.
-fn code(kind: u64, value: u64, number: u8) -> u64
-    requires { ⌜ (kind < 16) × (value < 1099511627776) ⌝ }
-    ensures { λ r. ⌜ r ≡ coded kind value number ⌝ }
-{
-    kind * 281474976710656 + value * 256 + number as u64
-}
-
-// The number of a rule.
-fn rule_number(rule: Rule) -> u8
-    ensures { λ r. ⌜ r ≡ rule-code (rule-of rule) ⌝ }
-{
-    match rule {
-        Rule::XGranted => 1,
-        Rule::XWaiting => 2,
-        Rule::CounterBehind => 3,
-    }
-}
-
-// A TAKE's answer: the save, and where it was found invalid the sheet and the rule.
-fn take_code(t: u8, v: Verdict) -> u64
-    ensures { λ r. ⌜ r ≡ verdict-code t (verdict-of v) ⌝ }
-{
-    match v {
-        Verdict::Valid => code(3, t as u64, 0),
-        Verdict::Invalid(cause) => {
-            let k = cause.sheet;
-            let rule = cause.rule;
-            code(4, k as u64 * 65536 + t as u64, rule_number(rule))
-        }
-    }
-}
-
 // The answer of a call on a session, for the host.
 #[no_mangle]
 pub extern "C" fn cusphewa_answer(session: &[u8]) -> u64
     ensures { λ r. ⌜ r ≡ answer-code (calls.reply (now (session .entry))) ⌝ }
     ensures why_failed { λ _. ⌜ WhyFailed ⌝ }
 {
-    let answer = last_answer(session);
-    match answer {
-        Reply::NoCommand => code(0, 0, 0),
-        Reply::Accepted => code(1, 0, 0),
-        Reply::Content(v) => code(2, v as u64, 0),
-        Reply::Took(t, v) => take_code(t, v),
-        Reply::Commits => code(5, 0, 0),
-        Reply::SecondRun => code(6, 0, 0),
-        Reply::Refused(p, n) => code(7, p as u64, n),
-    }
+    codes::reply_code(last_answer(session))
 }
 
 // The part shown, for the host: its offset and its size in one.
@@ -215,8 +177,8 @@ pub extern "C" fn cusphewa_write(
 {
     let written = writing::write(nodes, sheets, owners, steps, session);
     match written {
-        Written::Bytes(n) => code(8, n as u64, 0),
-        Written::Refused(p, n) => code(7, place(p), n),
+        Written::Bytes(n) => codes::code(8, n as u64, 0),
+        Written::Refused(p, n) => codes::code(7, place(p), n),
     }
 }
 
@@ -229,8 +191,12 @@ pub extern "C" fn cusphewa_read(session: &[u8], steps: &mut [u32]) -> u64
 {
     let read = listing::read(session, steps);
     match read {
-        Listed::Steps(n, m, q) => code(9, n as u64 * 4294967296 + m as u64 * 65536 + q as u64, 0),
-        Listed::Refused(p, n) => code(7, place(p), n),
+        Listed::Steps(n, m, q) => codes::code(
+            9,
+            n as u64 * 4294967296 + m as u64 * 65536 + q as u64,
+            0,
+        ),
+        Listed::Refused(p, n) => codes::code(7, place(p), n),
     }
 }
 
@@ -243,5 +209,59 @@ pub extern "C" fn cusphewa_owners(session: &[u8]) -> u64
     match header {
         Opened::Bad => 0,
         Opened::Header(_, sheets) => 2 * 4294967296 + sheets as u64,
+    }
+}
+
+// ---- The state, and every answer
+
+// The state that a session with this header leads to, as a number for the host.
+fn state_code(session: &[u8], room: &mut [u8], nodes: u8, sheets: u16) -> u64
+    requires { ⌜ Header nodes sheets ≡ opened (now session) ⌝ }
+    ensures { λ r. ⌜ record { code = r; room = now (room .exit) } ≡ told-call (state-call (now (session .entry)) (now (room .entry))) ⌝ }
+    ensures short { λ _. ⌜ ShortText (now (session .entry)) ⌝ }
+{
+    let shown = states::show(session, room, nodes, sheets);
+    match shown {
+        Shown::Text(n) => codes::code(8, n as u64, 0),
+        Shown::TooShort(n) => codes::code(7, n as u64, 15),
+    }
+}
+
+// Writes the state after the session's accepted commands, as text: how many bytes it has, or a refusal, which writes nothing.
+#[no_mangle]
+pub extern "C" fn cusphewa_state(session: &[u8], room: &mut [u8]) -> u64
+    ensures { λ r. ⌜ record { code = r; room = now (room .exit) } ≡ told-call (state-call (now (session .entry)) (now (room .entry))) ⌝ }
+    ensures short { λ _. ⌜ ShortText (now (session .entry)) ⌝ }
+    ensures granted { λ _. ⌜ GrantedAlone ⌝ }
+{
+    let header = wire::read_header(session);
+    match header {
+        Opened::Bad => codes::code(7, 0, 1),
+        Opened::Header(nodes, sheets) => state_code(session, room, nodes, sheets),
+    }
+}
+
+// The answers of a session with this header, as a number for the host.
+fn answers_code(session: &[u8], list: &mut [u64], nodes: u8, sheets: u16) -> u64
+    requires { ⌜ Header nodes sheets ≡ opened (now session) ⌝ }
+    ensures { λ r. ⌜ record { code = r; room = now (list .exit) } ≡ told-call (answers-call (now (session .entry)) (now (list .entry))) ⌝ }
+{
+    let told = answers::tell_all(session, list, nodes, sheets);
+    match told {
+        Told::Answers(n) => codes::code(8, n as u64, 0),
+        Told::TooShort(n) => codes::code(7, n as u64, 15),
+    }
+}
+
+// Lists every command's answer, as cusphewa_answer's numbers, up to the first refusal: how many there are, or a refusal, which writes nothing.
+#[no_mangle]
+pub extern "C" fn cusphewa_answers(session: &[u8], list: &mut [u64]) -> u64
+    ensures { λ r. ⌜ record { code = r; room = now (list .exit) } ≡ told-call (answers-call (now (session .entry)) (now (list .entry))) ⌝ }
+    ensures prefixes { λ _. ⌜ EachPrefix (now (session .entry)) ⌝ }
+{
+    let header = wire::read_header(session);
+    match header {
+        Opened::Bad => codes::code(7, 0, 1),
+        Opened::Header(nodes, sheets) => answers_code(session, list, nodes, sheets),
     }
 }

@@ -17,3 +17,7 @@ max-session = 16384
 -- bytes of a report buffer
 abbrev pub min-buffer : ℕ
 min-buffer = 4096
+
+-- bytes that a state's text may have: none has more (proved where it is written)
+abbrev pub max-state : ℕ
+max-state = 524288

@@ -87,11 +87,11 @@ module _ {b : List ℕ} (o : opens b ≡ true) {m : ℕ} {x : Slices} {tally : T
 
   -- what the reader found at p
   module _ (next : Next) (e : front-of next ≡ front-in (take (length b - p) (drop p b))) where
-    found : {f : Option Front} → front-of next ≡ f → front-in (drop p b) ≡ f
+    pub found : {f : Option Front} → front-of next ≡ f → front-in (drop p b) ≡ f
     found q = ap front-in (sym (rest b p)) ∙ sym e ∙ q
 
     module _ {c : wire.Command} {w : ℕ} (q : next ≡ Step c w) where
-      whole-here : front-in (drop p b) ≡ some (whole (command-of c) w)
+      pub whole-here : front-in (drop p b) ≡ some (whole (command-of c) w)
       whole-here = found (ap front-of q)
 
       pub fits : p + 1 + w ≤ length b

@@ -40,7 +40,7 @@ pub enum Reply {
 }
 
 // The number of a refusal, 0 for any other answer.
-fn refusal(a: Answer) -> u8
+pub fn refusal(a: Answer) -> u8
     ensures { λ r. ⌜ r ≡ refusal-in a ⌝ }
 {
     match a {
@@ -56,7 +56,7 @@ fn refusal(a: Answer) -> u8
 }
 
 // An accepted command's answer as the call's.
-fn told(a: Answer) -> Reply
+pub fn told(a: Answer) -> Reply
     ensures { λ r. ⌜ r ≡ reply-to a ⌝ }
 {
     match a {
@@ -139,7 +139,7 @@ fn report_lines(report: &mut [u8], b: &[u8], w: &[u32], m: usize, r: Walked) -> 
 }
 
 // Carries the fresh slices of a session through to its end or its first refusal.
-fn walk(
+pub fn walk(
     session: &[u8],
     b: &mut [u8],
     listed: &mut [u16],

@@ -1,7 +1,7 @@
 -- A number for each verdict.
 use borrow.Author.Needs.{needs}
-use Rattle.cusphewa.proofs.take_code.Statement.{statement}
-use Rattle.cusphewa.proofs.take_code.Tie as tie
+use Rattle.codes.proofs.take_code.Statement.{statement}
+use Rattle.codes.proofs.take_code.Tie as tie
 
 enum-told : tie.Need-enum-told
 enum-told c = search needs

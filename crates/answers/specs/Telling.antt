@@ -1,0 +1,29 @@
+-- The pass's loop: at offset p of session b, with the answers of the commands before it at the front of the list.
+use Prim.Native.Nat.{ℕ, _*_, _≤_}
+use mathlib.Core.Path.{_≡_}
+use mathlib.Core.List.{List, _++_, map}
+use lib.ListN.{drop}
+use Rattle.rules.specs.Bytes.{read-from}
+use Rattle.rules.specs.State.{State}
+use Rattle.rules.specs.Calls as calls
+use Rattle.rules.specs.Answers.{replies, session-replies}
+use Rattle.text.specs.Wrote.{Wrote}
+use Rattle.state.specs.Slices.{Slices}
+use Rattle.state.specs.Lent.{shown}
+use Rattle.tally.specs.declared.Tally.{Tally}
+use Rattle.tally.specs.Figures.{figures}
+use Rattle.session.specs.declared.Reply.{Reply}
+use Rattle.session.specs.Looping.{Looping}
+use Rattle.codes.specs.Codes.{answer-code}
+
+-- the answers from offset p on, in state s
+abbrev pub rest : List ℕ → State → (p : ℕ) → List calls.Reply
+rest b s p = replies s (read-from 0 p (drop p b) .steps) (read-from 0 p (drop p b) .stop)
+
+pub record Telling (b : List ℕ) (m : ℕ) (x : Slices) (tally : Tally) (p : ℕ) (before after : List ℕ) (count : ℕ) : Type 0 where
+  pub last : Reply  -- the last command's answer
+  pub looping : Looping b m x tally last p
+  pub done : List calls.Reply
+  pub wrote : Wrote before 0 (map answer-code done) count count after
+  pub same : done ++ rest b (shown m x (figures tally)) p ≡ session-replies b
+  pub few : 2 * count ≤ p  -- a command has two bytes at least

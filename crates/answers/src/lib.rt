@@ -1,0 +1,118 @@
+// Every command's answer, as numbers for the host, in one pass over the session.
+ghost use mathlib.Core.Path.{_≡_};
+ghost use mathlib.Core.List.{[], _∷_, _++_, map};
+ghost use Prim.Native.Nat.{_≤_, _<_};
+ghost use lib.ListN.{length, take, drop};
+ghost use Rattle.rules.specs.Answers.{session-replies};
+ghost use Rattle.text.specs.Wrote.{Wrote};
+ghost use Rattle.wire.specs.Meaning.{opened};
+ghost use Rattle.wire.specs.declared.Opened.the-variants.{Header};
+ghost use Rattle.state.specs.Slices.{slices};
+ghost use Rattle.session.specs.Meaning.{reply-of};
+ghost use Rattle.session.specs.Looping.{Begins};
+ghost use Rattle.codes.specs.Codes.{answer-code, NearReply};
+ghost use Rattle.answers.specs.Meaning.{most-answers, outcome-of, answers-into, Small};
+use session::Reply;
+use state::Session;
+use tally::Tally;
+use wire::Next;
+
+// How many answers were written, or how many the room must hold, where the one that was lent is too short.
+pub enum Told {
+    Answers(usize),
+    TooShort(usize),
+}
+
+// One answer more behind the first `count`.
+fn tell(list: &mut [u64], count: usize, r: Reply) -> usize
+    requires { ⌜ (count < length (now list)) × NearReply r ⌝ }
+    ensures { λ n. ⌜ Wrote (now (list .entry)) count (answer-code (reply-of r) ∷ []) 1 n (now (list .exit)) ⌝ }
+{
+    list[count] = codes::reply_code(r);
+    count + 1
+}
+
+// Carries the fresh slices of a session through to its end or its first refusal, and lists the answers on the way.
+fn walk(
+    session: &[u8],
+    list: &mut [u64],
+    b: &mut [u8],
+    listed: &mut [u16],
+    value: &mut [u32],
+    seen: &mut [u16],
+    w: &mut [u32],
+    m: usize,
+) -> usize
+    requires { ⌜ Begins (now session) m (slices (now b) (now listed) (now value) (now seen) (now w)) × (most-answers ≤ length (now list)) ⌝ }
+    ensures { λ r. ⌜ Wrote (now (list .entry)) 0 (map answer-code (session-replies (now (session .entry)))) most-answers r (now (list .exit)) ⌝ }
+{
+    let mut tally = Tally::new();
+    let mut count: usize = 0;
+    let mut at: usize = 2 + m;
+    while at < session.len() {
+        let next = wire::read_next(&session[at..]);
+        match next {
+            Next::Step(c, z) => {
+                let a = engine::step(b, listed, value, seen, w, m, c);
+                let n = session::refusal(a);
+                if n != 0 {
+                    return tell(list, count, Reply::Refused(at, n));
+                }
+                let t = tally.advanced(a);
+                tally = t;
+                count = tell(list, count, session::told(a));
+                at = at + 1 + z;
+            }
+            Next::Unknown => return tell(list, count, Reply::Refused(at, 2)),
+            Next::Cut => return tell(list, count, Reply::Refused(at, 3)),
+            Next::End => return count,
+        }
+    }
+    count
+}
+
+// The first n numbers of a list at the front of a room.
+fn copy(room: &mut [u64], list: &[u64], n: usize)
+    requires { ⌜ (n ≤ length (now room)) × (n ≤ length (now list)) ⌝ }
+    ensures { λ _. ⌜ now (room .exit) ≡ take n (now (list .entry)) ++ drop n (now (room .entry)) ⌝ }
+{
+    let mut i: usize = 0;
+    while i < n {
+        room[i] = list[i];
+        i += 1;
+    }
+}
+
+// The answers of a session with this header, if the room holds them. They are listed aside first, so that nothing is written where it does not.
+pub fn tell_all(session: &[u8], room: &mut [u64], nodes: u8, sheets: u16) -> Told
+    requires { ⌜ Header nodes sheets ≡ opened (now session) ⌝ }
+    ensures { λ r. ⌜
+        record { outcome = outcome-of r; room = now (room .exit) } ≡ answers-into (map answer-code (session-replies (now (session .entry)))) (now (room .entry))
+        ⌝ }
+    ensures small { λ r. ⌜ Small r ⌝ }
+{
+    let mut list = [0u64; 8192];
+    let mut b = [0u8; Session::BYTES];
+    let mut listed = [0u16; Session::LISTS];
+    let mut value = [0u32; Session::COPIES];
+    let mut seen = [0u16; Session::COPIES];
+    let mut w = [0u32; Session::STORE];
+    let m = sheets as usize;
+    let end = 2 + m;
+    Session::fresh(&mut b, &listed, &value, &seen, &w, nodes, &session[2..end]);
+    let n = walk(
+        session,
+        &mut list,
+        &mut b,
+        &mut listed,
+        &mut value,
+        &mut seen,
+        &mut w,
+        m,
+    );
+    if room.len() < n {
+        return Told::TooShort(n);
+    }
+    copy(room, &list, n);
+    Told::Answers(n)
+}

@@ -1,0 +1,40 @@
+-- Answers as numbers, for the host.
+use Prim.Native.Nat.{ℕ, _+_, _*_, _≤_}
+use Rattle.rules.specs.Steps.{Rule, x-granted, x-waiting, counter-behind, Verdict, valid, invalid, accepted, content-is, took, commits, second-run}
+use Rattle.rules.specs.Calls as calls
+use Rattle.rules.specs.Calls.{no-command, answers, refusal}
+use Rattle.session.specs.declared.Reply.{Reply}
+use Rattle.session.specs.declared.Reply.the-variants as reply
+
+-- kind * 2^48 + value * 2^8 + number
+abbrev pub coded : (kind value number : ℕ) → ℕ
+coded kind value number = kind * 281474976710656 + value * 256 + number
+
+abbrev pub rule-code : Rule → ℕ
+rule-code x-granted = 1
+rule-code x-waiting = 2
+rule-code counter-behind = 3
+
+-- what a node found save t: the value is sheet * 2^16 + save where there is a cause
+abbrev pub verdict-code : ℕ → Verdict → ℕ
+verdict-code t valid = coded 3 t 0
+verdict-code t (invalid c) = coded 4 (c .sheet * 65536 + t) (rule-code (c .rule))
+
+abbrev pub answer-code : calls.Reply → ℕ
+answer-code no-command = coded 0 0 0
+answer-code (answers accepted) = coded 1 0 0
+answer-code (answers (content-is v)) = coded 2 v 0
+answer-code (answers (took t v)) = verdict-code t v
+answer-code (answers commits) = coded 5 0 0
+answer-code (answers second-run) = coded 6 0 0
+answer-code (refusal p n) = coded 7 p n
+
+-- a refusal's offset is one of a session
+abbrev pub NearReply : Reply → Type 0
+NearReply reply.NoCommand = Unit {0}
+NearReply reply.Accepted = Unit {0}
+NearReply (reply.Content v) = Unit {0}
+NearReply (reply.Took t v) = Unit {0}
+NearReply reply.Commits = Unit {0}
+NearReply reply.SecondRun = Unit {0}
+NearReply (reply.Refused p c) = p ≤ 16384

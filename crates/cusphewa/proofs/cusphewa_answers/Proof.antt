@@ -1,0 +1,44 @@
+-- Refusal 1, or the list of the pass; that it is the answer call's on each prefix is the rules' theorem.
+use mathlib.Core.Path.{sym, _∙_}
+use Rattle.rules.proofs.Answers.{each-prefix}
+use Rattle.cusphewa.proofs.Views.{no-answers}
+use borrow.Author.Needs.{needs}
+use Rattle.cusphewa.proofs.cusphewa_answers.Statement.{statement}
+use Rattle.cusphewa.proofs.cusphewa_answers.Tie as tie
+
+read-header-requires : tie.Need-read-header-requires
+read-header-requires c κs = search needs
+
+enum-told : tie.Need-enum-told
+enum-told c = search needs
+
+code-requires : tie.Need-code-requires
+code-requires c κs = search needs
+
+enum-known-header : tie.Need-enum-known-header
+enum-known-header c = search needs
+
+answers-code-requires : tie.Need-answers-code-requires
+answers-code-requires c κs = sym (c .before .before .header .given .1) ∙ c .before .before .before .before .read-header .ensures
+
+returns : tie.Need-returns
+returns c = (no-answers _ (sym (c .before .enum-told .given .1) ∙ c .before .before .before .read-header .ensures) (c .code .ensures), each-prefix (c .before .before .before .before .before .before .args .session .now))
+
+same-length : tie.Need-same-length
+same-length c = search needs
+
+returns-2 : tie.Need-returns-2
+returns-2 c = (c .before .before .answers-code .ensures, each-prefix (c .before .before .before .before .before .before .before .before .before .before .args .session .now))
+
+pub cusphewa-answers-spec : {M : Type 1} → statement M
+cusphewa-answers-spec =
+    tie.close
+    (tie.spec
+    read-header-requires
+    enum-told
+    code-requires
+    enum-known-header
+    answers-code-requires
+    returns
+    same-length
+    returns-2)

@@ -1,0 +1,70 @@
+-- A text in a room that it fits or not, and the state of a walk.
+use Prim.Native.Nat.{ℕ, _+_, _*_, _≤_, _<_}
+use mathlib.Core.Path.{_≡_, refl, sym, ap, _∙_}
+use mathlib.Core.Bool.{true}
+use mathlib.Core.List.{List, []}
+use native.Mathlib.Nat.{zero-add}
+use native.Mathlib.Omega.{arith}
+use borrow.Author.Tests.{lt-ltb, le-ltb}
+use lib.ListN.{length}
+use Rattle.rules.specs.Bytes.{opens}
+use Rattle.rules.specs.Report.{Filled}
+use Rattle.rules.specs.Writing as lists
+use Rattle.rules.specs.Showing.{state-text, state-call}
+use Rattle.rules.proofs.Sessions.{Final, final}
+use Rattle.text.specs.Wrote.{Wrote}
+use Rattle.text.proofs.Writing.{wrote-as, wrote-front}
+use Rattle.state.specs.Slices.{Slices}
+use Rattle.state.specs.Lent.{shown}
+use Rattle.tally.specs.Figures.{figures}
+use Rattle.session.specs.declared.Walked.{Walked}
+use Rattle.session.specs.Carried.{Carried}
+use Rattle.showing.specs.Shows.{Shows, text-room}
+use Rattle.states.specs.Meaning.{fitted, ShortText}
+
+-- ---- The room
+
+-- lent no room, the writer tells the length
+length-is : {l m x : List ℕ} {n u : ℕ} → Wrote l 0 x u n m → n ≡ length x
+length-is {x = x} w = w .ends ∙ zero-add (length x)
+
+pub too-short : {l m x room : List ℕ} {n u : ℕ} → Wrote l 0 x u n m → length room < n → record { outcome = lists.refuse-with (lists.at n 15); room = room } ≡ fitted x room
+too-short {x = x} {room = room} {n = n} w h =
+    let e = length-is w in
+    rw (lt-ltb (length room) (length x) (omega (arith, e, h)), e)
+
+pub fits : {l m x room after : List ℕ} {n u v e : ℕ} → Wrote l 0 x u n m → n ≤ length room → Wrote room 0 x v e after → record { outcome = lists.wrote e; room = after } ≡ fitted x room
+fits {x = x} {room = room} w h p =
+    let q = length-is w in
+    let f = wrote-front (wrote-as refl (omega arith) p) (let z : length x ≤ length room = omega (arith, q, h) in z) in
+    rw (le-ltb (length room) (length x) (omega (arith, q, h))) (ap (λ (r : Filled). record { outcome = lists.wrote (r .size); room = r .buffer }) f)
+
+-- no text is longer
+pub room-enough : (m : ℕ) {l k x : List ℕ} {n : ℕ} → m ≤ 64 → Wrote l 0 x (text-room m) n k → n ≤ 524288
+room-enough m h w = omega (arith, length-is w, w .short)
+
+pub text-short : (m : ℕ) {l k x : List ℕ} {n : ℕ} → m ≤ 64 → Wrote l 0 x (text-room m) n k → length x ≤ 524288
+text-short m h w = omega (arith, w .short)
+
+-- ---- The walk's state
+
+module _ {b : List ℕ} (o : opens b ≡ true) {m : ℕ} {x : Slices} {r : Walked} (v : Carried b m x r) where
+  pub shows : m ≤ 64 → Shows m (x .bytes) (x .value) (x .seen) (x .sheets)
+  shows h = record {
+    ready = v .ready;
+    trimmed = v .fit .hints .trimmed;
+    lined = v .fit .hints .lined;
+    capped = v .fit .hints .capped;
+    values = v .fit .value;
+    seens = v .fit .seen;
+    sheets = v .fit .sheets;
+    few = h;
+  }
+
+  pub called : (room : List ℕ) → fitted (state-text (shown m x (figures (r .tally)))) room ≡ state-call b room
+  unfolding state-call final
+  called room = sym (rw o (ap (λ f. fitted (state-text (f .state)) room) (v .same)))
+
+  pub short-so : length (state-text (shown m x (figures (r .tally)))) ≤ 524288 → ShortText b
+  unfolding final
+  short-so h _ = rw (← ap (λ (f : Final). f .state) (v .same)) at h

@@ -1,0 +1,79 @@
+// The state after a session's accepted commands, as text into a lent room.
+ghost use mathlib.Core.Path.{_≡_};
+ghost use mathlib.Core.List.{[]};
+ghost use Prim.Native.Nat.{_≤_};
+ghost use lib.ListN.{length};
+ghost use Rattle.rules.specs.Sizes.{max-state};
+ghost use Rattle.rules.specs.Showing.{state-text, state-call};
+ghost use Rattle.wire.specs.Meaning.{opened};
+ghost use Rattle.wire.specs.declared.Opened.the-variants.{Header};
+ghost use Rattle.state.specs.Slices.{slices};
+ghost use Rattle.state.specs.Lent.{shown};
+ghost use Rattle.tally.specs.Figures.{figures};
+ghost use Rattle.showing.specs.Shows.{Shows};
+ghost use Rattle.states.specs.Meaning.{outcome-of, fitted, ShortText, Small};
+use state::Session;
+use tally::Tally;
+
+// How long the text is that was written, or how long a room it needs, where the one that was lent is too short.
+pub enum Shown {
+    Text(usize),
+    TooShort(usize),
+}
+
+// The text of the slices' state, if it fits: lent no room, the writer tells how long it is.
+fn fill(
+    room: &mut [u8],
+    b: &[u8],
+    value: &[u32],
+    seen: &[u16],
+    w: &[u32],
+    m: usize,
+    tally: Tally,
+) -> Shown
+    requires { ⌜ Shows m (now b) (now value) (now seen) (now w) ⌝ }
+    ensures { λ r. ⌜
+        record { outcome = outcome-of r; room = now (room .exit) }
+        ≡ fitted (state-text (shown m (slices (now (b .entry)) [] (now (value .entry)) (now (seen .entry)) (now (w .entry))) (figures tally))) (now (room .entry))
+        ⌝ }
+    ensures small { λ r. ⌜ Small r ⌝ }
+    ensures short { λ _. ⌜
+        length (state-text (shown m (slices (now (b .entry)) [] (now (value .entry)) (now (seen .entry)) (now (w .entry))) (figures tally))) ≤ max-state
+        ⌝ }
+{
+    let mut none = [0u8; 0];
+    let n = showing::text(&mut none, b, value, seen, w, m, tally);
+    if room.len() < n {
+        return Shown::TooShort(n);
+    }
+    let e = showing::text(room, b, value, seen, w, m, tally);
+    Shown::Text(e)
+}
+
+// Carries a session with this header through, and writes the state that it leads to.
+pub fn show(session: &[u8], room: &mut [u8], nodes: u8, sheets: u16) -> Shown
+    requires { ⌜ Header nodes sheets ≡ opened (now session) ⌝ }
+    ensures { λ r. ⌜ record { outcome = outcome-of r; room = now (room .exit) } ≡ state-call (now (session .entry)) (now (room .entry)) ⌝ }
+    ensures small { λ r. ⌜ Small r ⌝ }
+    ensures short { λ _. ⌜ ShortText (now (session .entry)) ⌝ }
+{
+    let mut b = [0u8; Session::BYTES];
+    let mut listed = [0u16; Session::LISTS];
+    let mut value = [0u32; Session::COPIES];
+    let mut seen = [0u16; Session::COPIES];
+    let mut w = [0u32; Session::STORE];
+    let m = sheets as usize;
+    let end = 2 + m;
+    Session::fresh(&mut b, &listed, &value, &seen, &w, nodes, &session[2..end]);
+    let r = session::walk(
+        session,
+        &mut b,
+        &mut listed,
+        &mut value,
+        &mut seen,
+        &mut w,
+        m,
+    );
+    let t = r.tally;
+    fill(room, &b, &value, &seen, &w, m, t)
+}
