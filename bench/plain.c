@@ -15,6 +15,12 @@ enum { MOST_NODES = 8, MOST_SHEETS = 64, MOST_SAVES = 32, MOST_BYTES = 16384, LE
 /* Each place of a save but its first takes a DECIDE, a READ and a SUBMIT: seven bytes. */
 enum { MOST_PLACES = MOST_SAVES + MOST_BYTES / 7 };
 
+/* A header has three bytes and a command two; a single byte that is left is answered too. */
+enum { MOST_ANSWERS = (MOST_BYTES - 3 + 1) / 2 };
+
+/* No state's text is longer: each save has a line for each sheet's claim and copy, and one in each queue, with all saves before it. */
+enum { STATE_BYTES = 524288, LONGEST_LINE = 128 };
+
 enum { UNUSED, FIRST_RUN, SECOND_RUN, SUBMITTED, COMMITTED, DROPPED };
 
 enum { NO_COMMAND, ACCEPTED, CONTENT, VALID, INVALID, DECIDED, SECOND, REFUSED, WRITTEN, LISTED };
@@ -162,7 +168,15 @@ static inline void withdraw(struct state *s, uint32_t number_t)
         s->before[other] &= gone;
 }
 
-static inline struct end run(struct state *s, const uint8_t *session, size_t length)
+/* An answer as cusphewa_answer codes it. */
+static inline uint64_t code(uint32_t kind, uint32_t value, uint32_t number)
+{
+    return ((uint64_t)kind << 48) + ((uint64_t)value << 8) + number;
+}
+
+/* Lists the accepted commands' answers where there is a list; it is inlined, so that without one nothing is left of it. */
+static inline __attribute__((always_inline)) struct end run_listed(struct state *s, const uint8_t *session, size_t length,
+                                                                   uint64_t *answers)
 {
     if (!start(s, session, length))
         return refuse(session, session, 0, 1);
@@ -347,6 +361,8 @@ static inline struct end run(struct state *s, const uint8_t *session, size_t len
             size = 1;
             REFUSE(2);
         }
+        if (answers)
+            answers[accepted] = code(kind, value, kind == INVALID ? rule_of(s, value) : 0);
     }
     s->accepted = accepted;
     {
@@ -361,6 +377,11 @@ refused:
     return refuse(session, at, size, number);
 #undef NEEDS
 #undef REFUSE
+}
+
+static inline struct end run(struct state *s, const uint8_t *session, size_t length)
+{
+    return run_listed(s, session, length, NULL);
 }
 
 static inline uint8_t *put_number(uint8_t *to, uint32_t number)
@@ -399,6 +420,33 @@ static inline const uint8_t *rows_of(const struct state *s, uint8_t *row)
     return row;
 }
 
+/* The report's lines but for that of a refusal. */
+static inline uint8_t *put_lines(const struct state *s, const uint8_t *row, uint8_t *to)
+{
+    for (uint32_t i = 0; i < s->places - s->former; i++) {
+        const struct save *t = &s->save[row[i]];
+        *to++ = 'P';
+        to = put_field(to, row[i]);
+        to = put_field(to, t->runs);
+        *to++ = ' ';
+        *to++ = t->phase == COMMITTED ? 'C' : t->phase == DROPPED ? 'D' : 'U';
+        *to++ = '\n';
+    }
+    for (uint32_t k = 0; k < s->sheets; k++) {
+        *to++ = 'O';
+        to = put_field(to, k);
+        to = put_field(to, s->content[k]);
+        to = put_field(to, s->wct[k]);
+        *to++ = '\n';
+    }
+    *to++ = 'T';
+    to = put_field(to, s->accepted);
+    to = put_field(to, s->first_commits);
+    to = put_field(to, s->second_commits);
+    *to++ = '\n';
+    return to;
+}
+
 size_t plain_report(const uint8_t *session, size_t session_len, uint8_t *report, size_t report_len)
 {
     if (report_len < LEAST_BUFFER)
@@ -409,29 +457,7 @@ size_t plain_report(const uint8_t *session, size_t session_len, uint8_t *report,
         memcpy(report, "R 0 1\n", 6);
         return 6;
     }
-    uint8_t *to = report, by_place[MOST_SAVES];
-    const uint8_t *row = rows_of(&s, by_place);
-    for (uint32_t i = 0; i < s.places - s.former; i++) {
-        const struct save *t = &s.save[row[i]];
-        *to++ = 'P';
-        to = put_field(to, row[i]);
-        to = put_field(to, t->runs);
-        *to++ = ' ';
-        *to++ = t->phase == COMMITTED ? 'C' : t->phase == DROPPED ? 'D' : 'U';
-        *to++ = '\n';
-    }
-    for (uint32_t k = 0; k < s.sheets; k++) {
-        *to++ = 'O';
-        to = put_field(to, k);
-        to = put_field(to, s.content[k]);
-        to = put_field(to, s.wct[k]);
-        *to++ = '\n';
-    }
-    *to++ = 'T';
-    to = put_field(to, s.accepted);
-    to = put_field(to, s.first_commits);
-    to = put_field(to, s.second_commits);
-    *to++ = '\n';
+    uint8_t by_place[MOST_SAVES], *to = put_lines(&s, rows_of(&s, by_place), report);
     if (end.kind == REFUSED) {
         *to++ = 'R';
         to = put_field(to, end.offset);
@@ -453,6 +479,195 @@ uint64_t plain_shown(const uint8_t *session, size_t session_len)
     struct state s;
     struct end end = run(&s, session, session_len);
     return ((uint64_t)end.offset << 32) + end.shown;
+}
+
+static inline uint64_t refusal(uint32_t number, size_t place)
+{
+    return code(REFUSED, place > UINT32_MAX ? UINT32_MAX : (uint32_t)place, number);
+}
+
+/* Written at once where the list has room for all that the session can have, else on a list of its own, to be copied where it fits. */
+uint64_t plain_answers(const uint8_t *session, size_t session_len, uint64_t *answers, size_t answers_len)
+{
+    struct state s;
+    uint64_t own[MOST_ANSWERS], *list = answers_len < MOST_ANSWERS && answers_len < session_len / 2 ? own : answers;
+    struct end end = run_listed(&s, session, session_len, list);
+    if (end.kind == REFUSED && end.number == 1)
+        return refusal(1, 0);
+    size_t count = s.accepted + (end.kind == REFUSED);
+    if (count > answers_len)
+        return refusal(15, count);
+    if (end.kind == REFUSED)
+        list[s.accepted] = code(REFUSED, end.offset, end.number);
+    if (list == own)
+        memcpy(answers, own, count * sizeof *own);
+    return code(WRITTEN, (uint32_t)count, 0);
+}
+
+/* The text of a state: its lines go one behind another, or, where only their length is asked for, one over another. */
+struct text {
+    uint8_t *line;
+    size_t length;
+    int kept;
+};
+
+static inline void end_line(struct text *x, uint8_t *to)
+{
+    *to++ = '\n';
+    size_t length = (size_t)(to - x->line);
+    x->length += length;
+    x->line += x->kept ? length : 0;
+}
+
+static inline uint8_t *put_letter(uint8_t *to, char letter)
+{
+    *to++ = ' ';
+    *to++ = (uint8_t)letter;
+    return to;
+}
+
+/* A save's, a sheet's or a node's number: at most two figures. */
+static inline uint8_t *put_short(uint8_t *to, uint32_t number)
+{
+    *to++ = ' ';
+    if (number >= 10)
+        *to++ = (uint8_t)('0' + number / 10);
+    *to++ = (uint8_t)('0' + number % 10);
+    return to;
+}
+
+static inline int is_wide(const struct save *t)
+{
+    return t->phase == SECOND_RUN && ((t->copied & ~t->claim) | (t->written & ~t->claim_x));
+}
+
+static inline void put_save(struct text *x, const struct state *s, uint32_t number_t)
+{
+    const struct save *t = &s->save[number_t];
+    uint8_t *to = x->line;
+    *to++ = 'S';
+    to = put_short(to, number_t);
+    to = put_letter(to, "-FLSCD"[t->phase]);
+    to = put_field(to, t->runs);
+    to = put_letter(to, t->failed ? 'F' : '-');
+    to = put_letter(to, is_wide(t) ? 'W' : '-');
+    to = s->placed >> number_t & 1 ? put_field(to, t->place) : put_letter(to, '-');
+    end_line(x, to);
+}
+
+static inline void put_places(struct text *x, const struct state *s)
+{
+    for (uint32_t q = 0; q < s->places; q++) {
+        uint8_t *to = x->line;
+        *to++ = 'L';
+        to = put_field(to, q);
+        to = put_short(to, s->order[q]);
+        to = put_letter(to, s->save[s->order[q]].place == q ? 'L' : 'F');
+        end_line(x, to);
+    }
+    for (uint32_t n = 0; n < s->nodes; n++) {
+        uint8_t *to = x->line;
+        *to++ = 'N';
+        to = put_short(to, n);
+        to = put_field(to, s->taken[n]);
+        end_line(x, to);
+    }
+}
+
+/* The sheets that the save claims or has copies of. */
+static inline void put_copies(struct text *x, const struct state *s, uint32_t number_t)
+{
+    const struct save *t = &s->save[number_t];
+    for (uint64_t left = t->claim | t->copied; left; left &= left - 1) {
+        uint32_t k = (uint32_t)__builtin_ctzll(left), seen = s->seen[number_t][k];
+        uint8_t *to = x->line;
+        *to++ = 'C';
+        to = put_short(to, number_t);
+        to = put_short(to, k);
+        to = put_letter(to, t->claim_x >> k & 1 ? 'X' : t->claim >> k & 1 ? 'S' : '-');
+        if (t->copied >> k & 1) {
+            to = put_letter(to, t->written >> k & 1 ? 'W' : 'R');
+            to = put_field(to, s->copy[number_t][k]);
+            to = put_field(to, seen);
+            to = put_letter(to, seen < s->wct[k] ? 'B' : '-');
+        } else {
+            to = put_letter(to, '-');
+        }
+        end_line(x, to);
+    }
+}
+
+/* Saves, as they stand in a line. */
+struct names {
+    size_t length;
+    uint8_t text[3 * MOST_SAVES];
+};
+
+static inline void add_name(struct names *names, const uint8_t *text, size_t length)
+{
+    memcpy(names->text + names->length, text, length);
+    names->length += length;
+}
+
+/* The entries come by last place. What stands in an entry's way is all that came before it, or the X among them. */
+static inline void put_queue(struct text *x, const struct state *s, uint32_t k, const uint8_t *row)
+{
+    struct names all, all_x;
+    all.length = all_x.length = 0;
+    for (uint32_t left = s->queue[k]; left; row++) {
+        uint32_t here = (uint32_t)1 << *row, is_x = s->queue_x[k] & here;
+        if (!(left & here))
+            continue;
+        left ^= here;
+        const struct names *way = is_x ? &all : &all_x;
+        uint8_t *to = x->line, *name;
+        *to++ = 'Q';
+        name = put_short(to, k);
+        to = put_short(name, *row);
+        size_t length = (size_t)(to - name);
+        to = put_letter(to, is_x ? 'X' : 'S');
+        to = put_letter(to, way->length ? 'W' : 'G');
+        memcpy(to, way->text, way->length);
+        to += way->length;
+        add_name(&all, name, length);
+        if (is_x)
+            add_name(&all_x, name, length);
+        end_line(x, to);
+    }
+}
+
+/* The text, or only its length. The report's lines, at most some thousand bytes, are not measured line by line. */
+static size_t put_state(const struct state *s, uint8_t *room, int kept)
+{
+    uint8_t report[LEAST_BUFFER], by_place[MOST_SAVES], line[LONGEST_LINE];
+    const uint8_t *row = rows_of(s, by_place);
+    uint8_t *front = kept ? room : report, *behind = put_lines(s, row, front);
+    struct text x = { kept ? behind : line, (size_t)(behind - front), kept };
+    for (uint32_t t = 0; t < MOST_SAVES; t++)
+        if (s->save[t].phase != UNUSED)
+            put_save(&x, s, t);
+    put_places(&x, s);
+    for (uint32_t t = 0; t < MOST_SAVES; t++)
+        if (s->save[t].phase != UNUSED)
+            put_copies(&x, s, t);
+    for (uint32_t k = 0; k < s->sheets; k++)
+        put_queue(&x, s, k, row);
+    return x.length;
+}
+
+/* Measured first where the room may be too short. */
+uint64_t plain_state(const uint8_t *session, size_t session_len, uint8_t *room, size_t room_len)
+{
+    struct state s;
+    struct end end = run(&s, session, session_len);
+    if (end.kind == REFUSED && end.number == 1)
+        return refusal(1, 0);
+    if (room_len < STATE_BYTES) {
+        size_t needed = put_state(&s, room, 0);
+        if (needed > room_len)
+            return refusal(15, needed);
+    }
+    return code(WRITTEN, (uint32_t)put_state(&s, room, 1), 0);
 }
 
 /* A step is a command's number and three operands; by the number, the bytes of its command and the bits that its second and third
@@ -486,11 +701,6 @@ static inline int out_of_range(const struct ranges *r, const uint32_t *step)
 }
 
 static inline int unknown(uint32_t number) { return number - 1 >= COMMANDS; }
-
-static inline uint64_t refusal(uint32_t number, size_t place)
-{
-    return ((uint64_t)REFUSED << 48) + ((uint64_t)(place > UINT32_MAX ? UINT32_MAX : place) << 8) + number;
-}
 
 /* Puts a step's bytes. As many are written as the longest command has, for the next step writes over them; near the end they go by a
    copy, so that nothing is written there. */

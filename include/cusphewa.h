@@ -28,7 +28,7 @@ enum {
     CUSPHEWA_COMMITTED = 5,     /* DECIDE */
     CUSPHEWA_SECOND_RUN = 6,    /* DECIDE: the save runs again, for the second time or a later one */
     CUSPHEWA_REFUSED = 7,       /* the offset is the value, the refusal the number */
-    CUSPHEWA_WRITTEN = 8,       /* cusphewa_write: the number of bytes is the value */
+    CUSPHEWA_WRITTEN = 8,       /* cusphewa_write, cusphewa_state: the number of bytes is the value; cusphewa_answers: that of answers */
     CUSPHEWA_LISTED = 9         /* cusphewa_read: the value is nodes * 2^32 + sheets * 2^16 + steps */
 };
 uint64_t cusphewa_answer(const uint8_t *session, size_t session_len);
@@ -65,7 +65,7 @@ enum {
     CUSPHEWA_SHORT_BUFFER = 12,     /* cusphewa_report returns 0; no answer has it */
     CUSPHEWA_NEVER_BEGAN = 13,      /* any command but BEGIN on an unused save */
     CUSPHEWA_IS_OVER = 14,          /* any command but APPLY on a committed or dropped save */
-    CUSPHEWA_NO_ROOM = 15           /* cusphewa_write, cusphewa_read: the room lent is too short */
+    CUSPHEWA_NO_ROOM = 15           /* cusphewa_write, cusphewa_read, cusphewa_answers, cusphewa_state: the room lent is too short */
 };
 
 /* The part of the session that is shown, as offset * 2^32 + size. */
@@ -97,6 +97,39 @@ uint64_t cusphewa_read(const uint8_t *session, size_t session_len, uint32_t *ste
 
 /* The owners, a byte for each sheet, are a part of the session: offset * 2^32 + size. 0 where the session earns 1. */
 uint64_t cusphewa_owners(const uint8_t *session, size_t session_len);
+
+/* No session has more answers than this. */
+#define CUSPHEWA_MOST_ANSWERS 8191
+
+/* Every command's answer: CUSPHEWA_WRITTEN with their count, and the answers at the front of `answers`, one for each command up to and with
+   the first refused one. Each is what cusphewa_answer gives for the session cut behind its command: so the kinds are those from
+   CUSPHEWA_ACCEPTED to CUSPHEWA_SECOND_RUN, and the last one of a stopped session is its refusal. A session without commands has none.
+   What stands beyond them stays as it is. Otherwise CUSPHEWA_REFUSED, with the first of these, and nothing is written:
+     1   the session earns it; the value is 0
+     15  `answers` is too short; the value is the number of answers
+   Pointers and overlap as above. */
+uint64_t cusphewa_answers(const uint8_t *session, size_t session_len, uint64_t *answers, size_t answers_len);
+
+/* No state's text is longer than this. */
+#define CUSPHEWA_STATE_BYTES 524288
+
+/* Writes the state after the accepted commands, as text, to the front of `room`: CUSPHEWA_WRITTEN with its length. Bytes beyond it stay as
+   they are. Lines end in 0A; decimal figures without leading zeros, one blank between fields. In this order:
+     P t r o, O k v w, T a f s   the report's lines, never R
+     S t p r f w q       a save that has begun: its phase (F first run, S submitted, L a later run, C committed, D dropped), the runs
+                         entered, F where it is marked failed, W where it is in a wide run, its last place in the order, from 0
+     L q t x             a place of the order: its save, and L where it is the save's last, F where it is a former one
+     N n q               a node: how many places it has taken
+     C t k c m v w b     a save's claim on a sheet, S or X, and its copy: R read or W also written, the content, the write counter seen,
+                         and B where this is behind the sheet's; without a copy the line ends with the - for it
+     Q k t c g u ..      an entry of a sheet's queue, from the front: its save, S or X, G granted or W waiting; behind a W the saves whose
+                         entries stand in its way, from the front
+   S and C go by save, C then by sheet, as Q does; a - stands for what there is none of. Otherwise CUSPHEWA_REFUSED, with the first of
+   these, and nothing is written:
+     1   the session earns it; the value is 0
+     15  `room` is too short; the value is the number of bytes that it needs
+   Pointers and overlap as above. */
+uint64_t cusphewa_state(const uint8_t *session, size_t session_len, uint8_t *room, size_t room_len);
 
 #ifdef __cplusplus
 }
