@@ -97,7 +97,7 @@ pub struct Sheet {
 
 impl Sheet {
     /// An S is granted when no X stands before it, an X when it stands first.
-    fn granted(&self, place: usize) -> bool {
+    pub fn granted(&self, place: usize) -> bool {
         match self.queue[place].lock {
             Lock::S => self.queue[..place].iter().all(|entry| entry.lock == Lock::S),
             Lock::X => place == 0,
