@@ -28,6 +28,18 @@ extern "C" {
         steps_len: usize,
     ) -> u64;
     fn cusphewa_owners(session: *const u8, session_len: usize) -> u64;
+    fn cusphewa_answers(
+        session: *const u8,
+        session_len: usize,
+        answers: *mut u64,
+        answers_len: usize,
+    ) -> u64;
+    fn cusphewa_state(
+        session: *const u8,
+        session_len: usize,
+        room: *mut u8,
+        room_len: usize,
+    ) -> u64;
 }
 
 // In each call a pointer and its length are those of one live slice.
@@ -66,4 +78,12 @@ pub fn read(session: &[u8], words: &mut [u32]) -> u64 {
 
 pub fn owners(session: &[u8]) -> u64 {
     unsafe { cusphewa_owners(session.as_ptr(), session.len()) }
+}
+
+pub fn answers(session: &[u8], list: &mut [u64]) -> u64 {
+    unsafe { cusphewa_answers(session.as_ptr(), session.len(), list.as_mut_ptr(), list.len()) }
+}
+
+pub fn state(session: &[u8], room: &mut [u8]) -> u64 {
+    unsafe { cusphewa_state(session.as_ptr(), session.len(), room.as_mut_ptr(), room.len()) }
 }

@@ -1,16 +1,18 @@
 //! Compares the engine, linked as a static library, with the model on seeded sessions, each with a
-//! list of steps to be written and with neighbouring steps swapped, and checks demand 3, the causes of
-//! TAKE's answers, the counters that APPLY raises, the saves that saved nothing and the second runs that
-//! open another sheet on each.
+//! list of steps to be written and with neighbouring steps swapped, with every command's answer and with the
+//! state's text, and checks demand 3, the causes of TAKE's answers, the counters that APPLY raises, the saves
+//! that saved nothing and the second runs that open another sheet on each.
 //!
 //! `fuzz --sessions N --seed S [--prefixes] [--lengths] [--states]`
 //!
-//! `--prefixes` compares the answer after every command of every session, not of a share only;
+//! `--prefixes` compares the answer after every command of every session, and some states on its way, not of a
+//! share only;
 //! `--lengths` adds every length from 0 to 16,386 bytes; `--states` adds every command in every
 //! state that small sessions reach. The end status is 1 on a difference, on a
 //! broken demand, and where a run of 1,000 sessions or more has left out a refusal, or one of
 //! 20,000 or more a command in some phase of its save, an outcome of a writing or a reading, a kind
-//! of neighbours, of causes, of marks, of saves that saved nothing or of wide runs.
+//! of neighbours, of causes, of marks, of saves that saved nothing, of wide runs, of a state's lines or of
+//! a list's ends.
 
 use model::command::{Command, Header, MOST_BYTES};
 use model::demand3::{self, Met};
@@ -21,14 +23,17 @@ use model::prng::Prng;
 use model::report::{write_report, LEAST_BUFFER};
 use model::session::{coded_answer, Cell, Session};
 use model::states;
+use rooms::Tally;
 use std::collections::BTreeMap;
 use std::process::exit;
-use writing::Tally;
 
+mod answers;
 mod causes;
 mod counters;
 mod engine;
 mod neighbours;
+mod rooms;
+mod state_text;
 mod unchanged;
 mod wide;
 mod writing;
@@ -45,7 +50,8 @@ const CELLS: usize = 7 * Phase::ALL.len();
 
 /// From so many sessions on, a refusal or a kind of commit that never occurred is a failure; from so
 /// many, a command that never came in some phase of its save, an outcome of a writing or reading, a
-/// kind of neighbours, of causes, of marks, of saves that saved nothing or of wide runs.
+/// kind of neighbours, of causes, of marks, of saves that saved nothing, of wide runs, of a state's lines or
+/// of a list's ends.
 const ALL_REFUSALS: u64 = 1_000;
 const ALL_CELLS: u64 = 20_000;
 
@@ -66,6 +72,8 @@ struct Counts {
     all_saves: u64,
     longest_queue: usize,
     met: Met,
+    state: state_text::Counts,
+    answers: answers::Counts,
     causes: causes::Counts,
     counters: counters::Counts,
     unchanged: unchanged::Counts,
@@ -139,10 +147,11 @@ fn arguments() -> Arguments {
 }
 
 fn one_session(seed: u64, prefixes: bool, counts: &mut Counts) -> Result<(), String> {
-    // Neighbouring seeds must not give neighbouring states; and the list and the swaps are the same
-    // whatever is drawn for the session.
+    // Neighbouring seeds must not give neighbouring states; and the list, the swaps and the rooms are the
+    // same whatever is drawn for the session.
     let mut seeds = Prng::new(seed);
-    let [mut prng, mut list_prng, mut swap_prng] = [(); 3].map(|()| Prng::new(seeds.draw()));
+    let [mut prng, mut list_prng, mut swap_prng, mut room_prng] =
+        [(); 4].map(|()| Prng::new(seeds.draw()));
     let Input { session, buffer } = generate::input(&mut prng);
     let (run, met) = demand3::check(&session, &mut prng)
         .map_err(|trouble| format!("demand 3 in the model: {trouble}\n{}", shown(&session)))?;
@@ -150,11 +159,15 @@ fn one_session(seed: u64, prefixes: bool, counts: &mut Counts) -> Result<(), Str
     unchanged::one_session(&session, &run, &mut counts.unchanged)?;
     wide::one_session(&session, &run, &mut counts.wide)?;
     let mut compared = compare(&session, &run, &buffer, &mut prng);
-    if compared.is_ok() && (prefixes || prng.one_in(4)) {
+    let prefixes = prefixes || prng.one_in(4);
+    if compared.is_ok() && prefixes {
         compared =
             compare_prefixes(&session, &run, &mut prng).map(|prefixes| counts.prefixes += prefixes);
     }
+    let (state, answers) = (&mut counts.state, &mut counts.answers);
     compared
+        .and_then(|()| state_text::one_session(&session, &run, prefixes, &mut room_prng, state))
+        .and_then(|()| answers::one_session(&session, &run, &mut room_prng, answers))
         .and_then(|()| writing::one_session(&session, &mut prng, &mut counts.writing))
         .and_then(|()| counters::one_session(&session, &run, &mut counts.counters))
         .map_err(|trouble| with_smaller(trouble, &session, &buffer))?;
@@ -174,6 +187,7 @@ fn every_length(seed: u64) -> Result<(), String> {
         let buffer = generate::buffer(&mut prng);
         compare(session, &run, &buffer, &mut prng)?;
         writing::read(session, &mut prng, &mut Tally::new())?;
+        told(session, &run, &mut prng)?;
     }
     Ok(())
 }
@@ -202,6 +216,8 @@ fn every_state(header: &Header, saves: usize) -> Result<(), String> {
             unchanged::one_session(session, &run, &mut Default::default())?;
             wide::one_session(session, &run, &mut Default::default())?;
             pairs_tried += neighbours::in_state(session, &run, &pairs)?;
+            told(session, &run, &mut prng)?;
+            run.started.iter().try_for_each(|(_, state)| state_text::hold(session, state))?;
         }
         compare(session, &run, &buffer, &mut prng)?;
         check_last(session, &run)
@@ -224,6 +240,12 @@ fn check_last(session: &[u8], run: &Session) -> Result<(), String> {
         Some(Command::Apply { .. }) => counters::one_session(session, run, &mut Default::default()),
         _ => Ok(()),
     }
+}
+
+/// The state's text and the list of answers.
+fn told(session: &[u8], run: &Session, prng: &mut Prng) -> Result<(), String> {
+    state_text::compare(session, run, 0, prng, &mut Tally::new())?;
+    answers::compare(session, run, 0, prng, &mut Tally::new()).map(|_| ())
 }
 
 /// One session: the length, every byte of the buffer and around it, the answer, the part shown.
@@ -306,6 +328,7 @@ fn smallest(session: &[u8], buffer: &[u8]) -> Option<String> {
         let mut prng = Prng::new(0);
         compare(bytes, &Session::run(bytes), buffer, &mut prng)
             .and_then(|()| writing::one_session(bytes, &mut prng, &mut Default::default()))
+            .and_then(|()| told(bytes, &Session::run(bytes), &mut prng))
             .err()
     };
     let run = Session::run(session);
@@ -378,6 +401,8 @@ fn count(session: &[u8], run: &Session, buffer: &[u8], met: Met, counts: &mut Co
 /// Prints the counts; says whether something never occurred that so many sessions have.
 fn close(counts: &Counts) -> bool {
     let left_out = [
+        counts.state.close(),
+        counts.answers.close(),
         counts.wide.close(),
         counts.causes.close(),
         counts.counters.close(),
