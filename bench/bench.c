@@ -15,6 +15,8 @@ size_t plain_report(const uint8_t *session, size_t session_len, uint8_t *report,
 uint64_t plain_write(size_t nodes, size_t sheets, const uint8_t *owners, size_t owners_len, const uint32_t *steps, size_t steps_len,
                      uint8_t *session, size_t session_len);
 uint64_t plain_read(const uint8_t *session, size_t session_len, uint32_t *steps, size_t steps_len);
+uint64_t plain_answers(const uint8_t *session, size_t session_len, uint64_t *answers, size_t answers_len);
+uint64_t plain_state(const uint8_t *session, size_t session_len, uint8_t *room, size_t room_len);
 
 enum { MOST_BYTES = 16384, BUFFER = 4096, SAVES = 32, NODES = 4, SHEETS = 16, MOST_NODES = 8, MOST_SHEETS = 64 };
 enum { MOST_WORDS = CUSPHEWA_STEP_WORDS * CUSPHEWA_MOST_STEPS };
@@ -223,6 +225,23 @@ static void make_turns(struct session *s) { turns_of(s, "32 saves in turns", MOS
 
 static void make_turns_at_one(struct session *s) { turns_of(s, ".., at one node", 1, SAVES - 1); }
 
+/* Each save has a copy of all 64 sheets and an entry in every queue, half of them X: a state with many lines, most of them long. */
+static void make_queues(struct session *s)
+{
+    header(s, "32 saves on 64 sheets", MOST_NODES, MOST_SHEETS);
+    for (int t = 0; t < SAVES; t++) {
+        on_save(s, 1, t);
+        for (int k = 0; k < MOST_SHEETS; k++)
+            read_sheet(s, t, k);
+        for (int k = t % 2; k < MOST_SHEETS; k += 2)
+            write_sheet(s, t, k, (uint32_t)(t * 1000003 + k));
+    }
+    for (int t = 0; t < SAVES; t++)
+        on_save(s, 4, t);
+    for (int t = 0; t < SAVES; t++)
+        nodes_take(s, MOST_NODES);
+}
+
 static void make_w(struct session *s)
 {
     static const uint8_t w[58] = {
@@ -264,8 +283,9 @@ static void make_half_mixed(struct session *s) { mixed(s, MOST_BYTES / 2); }
 static void make_mixed(struct session *s) { mixed(s, MOST_BYTES); }
 
 /* What the calls write to, and the steps' words that a session is written from. */
-static uint8_t report[BUFFER], written[MOST_BYTES];
+static uint8_t report[BUFFER], written[MOST_BYTES], state[CUSPHEWA_STATE_BYTES];
 static uint32_t listed[MOST_WORDS], words[MOST_WORDS];
+static uint64_t answers[CUSPHEWA_MOST_ANSWERS];
 
 /* A call on the session; 0 where it did not do its work. */
 typedef int call(const struct session *);
@@ -284,6 +304,14 @@ typedef int call(const struct session *);
     static int side##_reads(const struct session *s) \
     { \
         return side##_read(s->bytes, s->length, listed, MOST_WORDS) >> 48 == CUSPHEWA_LISTED; \
+    } \
+    static int side##_answers_all(const struct session *s) \
+    { \
+        return side##_answers(s->bytes, s->length, answers, CUSPHEWA_MOST_ANSWERS) >> 48 == CUSPHEWA_WRITTEN; \
+    } \
+    static int side##_tells(const struct session *s) \
+    { \
+        return side##_state(s->bytes, s->length, state, sizeof state) >> 48 == CUSPHEWA_WRITTEN; \
     }
 CALLS(cusphewa)
 CALLS(plain)
@@ -342,6 +370,23 @@ static void check_writing(const struct session *s)
         !leaves(cusphewa_writes, s, written, s->bytes, s->length) ||
         !leaves(plain_writes, s, written, s->bytes, s->length)) {
         fprintf(stderr, "%s: not written or read\n", s->name);
+        exit(1);
+    }
+}
+
+/* Both must list the same answers and tell the same state. */
+static void check_told(const struct session *s)
+{
+    static uint64_t list[CUSPHEWA_MOST_ANSWERS];
+    static uint8_t text[CUSPHEWA_STATE_BYTES];
+    memset(list, 0, sizeof list);
+    memset(text, 0, sizeof text);
+    uint64_t count = plain_answers(s->bytes, s->length, list, CUSPHEWA_MOST_ANSWERS);
+    uint64_t length = plain_state(s->bytes, s->length, text, sizeof text);
+    if (CUSPHEWA_VALUE(count) != s->commands || cusphewa_answers(s->bytes, s->length, answers, CUSPHEWA_MOST_ANSWERS) != count ||
+        cusphewa_state(s->bytes, s->length, state, sizeof state) != length ||
+        !leaves(cusphewa_answers_all, s, answers, list, sizeof list) || !leaves(cusphewa_tells, s, state, text, sizeof text)) {
+        fprintf(stderr, "%s: the answers or the states differ\n", s->name);
         exit(1);
     }
 }
@@ -433,11 +478,37 @@ static void writing(int turns)
     }
 }
 
+/* Every command's answer in one pass, and the state as text. */
+static void answers_and_states(int turns)
+{
+    static struct session s;
+    static void (*const listed_of[])(struct session *) = { make_own, make_conflict_long, make_w };
+    static void (*const told_of[])(struct session *) = { make_own, make_queues, make_w };
+    char name[64];
+    printf("\n");
+    title("answers and states");
+    for (size_t i = 0; i < sizeof listed_of / sizeof *listed_of; i++) {
+        listed_of[i](&s);
+        check(&s);
+        check_told(&s);
+        snprintf(name, sizeof name, "answers, %.12s", s.name);
+        line(name, cusphewa_answers_all, plain_answers_all, &s, turns);
+    }
+    for (size_t i = 0; i < sizeof told_of / sizeof *told_of; i++) {
+        told_of[i](&s);
+        check(&s);
+        check_told(&s);
+        snprintf(name, sizeof name, "state, %.14s", s.name);
+        line(name, cusphewa_tells, plain_tells, &s, turns);
+    }
+}
+
 int main(int count, char **arguments)
 {
     int turns = count > 1 ? atoi(arguments[1]) : 300;
     sessions(turns);
     lengths(turns);
     writing(turns);
+    answers_and_states(turns);
     return 0;
 }

@@ -499,14 +499,14 @@ uint64_t plain_answers(const uint8_t *session, size_t session_len, uint64_t *ans
     if (!start(&s, session, session_len))
         return refusal(1, 0);
     struct end end = run_listed(&s, session, session_len, list);
-    size_t count = s.accepted + (end.kind == REFUSED);
-    if (count > answers_len)
-        return refusal(15, count);
+    size_t listed = s.accepted + (end.kind == REFUSED);
+    if (listed > answers_len)
+        return refusal(15, listed);
     if (end.kind == REFUSED)
         list[s.accepted] = code(REFUSED, end.offset, end.number);
     if (list == own)
-        memcpy(answers, own, count * sizeof *own);
-    return code(WRITTEN, (uint32_t)count, 0);
+        memcpy(answers, own, listed * sizeof *own);
+    return code(WRITTEN, (uint32_t)listed, 0);
 }
 
 /* The text of a state: its lines go one behind another, or, where only their length is asked for, one over another. */
