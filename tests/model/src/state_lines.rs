@@ -132,10 +132,11 @@ impl Lines {
 struct Fields<'a>(Split<'a, char>);
 
 impl Fields<'_> {
-    /// A figure without leading zeros.
-    fn figure<T: std::str::FromStr + ToString>(&mut self) -> Option<T> {
+    /// A figure without a sign or leading zeros.
+    fn figure<T: std::str::FromStr>(&mut self) -> Option<T> {
         let field = self.0.next()?;
-        field.parse().ok().filter(|figure: &T| figure.to_string() == field)
+        let plain = field == "0" || matches!(field.bytes().next(), Some(b'1'..=b'9'));
+        field.parse().ok().filter(|_| plain)
     }
 
     fn number(&mut self, expected: usize) -> Option<()> {
@@ -148,8 +149,9 @@ impl Fields<'_> {
         letters.chars().find(|letter| field.len() == 1 && field.starts_with(*letter))
     }
 
-    fn mark(&mut self, letter: &str) -> Option<bool> {
-        self.letter(&format!("{letter}-")).map(|found| found != '-')
+    /// The last of these letters is the - of a mark that is not set.
+    fn mark(&mut self, letters: &str) -> Option<bool> {
+        self.letter(letters).map(|letter| letter != '-')
     }
 
     fn lock(&mut self, letters: &str) -> Option<Option<Lock>> {
@@ -162,7 +164,7 @@ impl Fields<'_> {
 
     fn save_line(&mut self) -> Option<SaveLine> {
         let (save, phase, runs) = (self.figure()?, self.letter("FSLCD")?, self.figure()?);
-        let (failed, wide) = (self.mark("F")?, self.mark("W")?);
+        let (failed, wide) = (self.mark("F-")?, self.mark("W-")?);
         let mut ahead = self.0.clone();
         let place = if ahead.next() == Some("-") {
             self.0 = ahead;
@@ -181,7 +183,7 @@ impl Fields<'_> {
                 written: letter == 'W',
                 content: self.figure()?,
                 wct_seen: self.figure()?,
-                behind: self.mark("B")?,
+                behind: self.mark("B-")?,
             }),
         };
         Some(CopyLine { save, sheet, claim, copy })
