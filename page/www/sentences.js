@@ -1,0 +1,145 @@
+/* What the engine answered, in words. Every fact is read from an answer or from a state's text; nothing is worked out. */
+import { copyOf, entriesOf, queue } from './state.js';
+
+export const NONE = 0, ACCEPTED = 1, CONTENT = 2, VALID = 3, INVALID = 4, COMMITTED = 5, AGAIN = 6, REFUSED = 7;
+export const PHASES = { F: 'first run', S: 'submitted', L: 'later run', C: 'committed', D: 'dropped' };
+export const RULES = ['', 'X granted', 'X waiting', 'counter behind'];
+export const OUTCOMES = { C: 'committed', D: 'dropped', U: 'neither yet' };
+export const REFUSALS = {
+  1: 'the header is short or out of range, or the session has over 16,384 bytes', 2: 'unknown command byte', 3: 'operands cut short', 4: 'no such save, node or sheet',
+  5: 'the save has begun and is not over, and its phase does not allow the command', 6: 'a first-run READ meets an X at the front of the sheet’s queue',
+  7: 'WRITE without a copy from this run', 8: 'never occurs any more: a later run may open another sheet', 9: 'TAKE: the node has taken every submitted save',
+  10: 'DECIDE: a concerned node has not taken the save, or an entry of it waits', 11: 'APPLY: the save has no entry at the node', 12: 'the report buffer has under 4,096 bytes',
+  13: 'the save never began', 14: 'the save is over, committed or dropped', 15: 'the room lent is too short',
+};
+
+/* A TAKE's answer: its save; where it is invalid also the sheet and the rule of the cause. */
+export const takenSave = value => value % 65536;
+export const causeSheet = value => Math.floor(value / 65536);
+
+export const phaseName = save => save.phase === 'L' ? `later run ${save.runs}${save.wide ? ', wide' : ''}` : PHASES[save.phase];
+const plural = (n, word) => `${n} ${word}${n === 1 ? '' : 's'}`;
+const and = parts => parts.length < 2 ? parts.join('') : `${parts.slice(0, -1).join(', ')} and ${parts.at(-1)}`;
+const saves = list => and(list.map(t => `save ${t}`));
+
+/* An answer in two or three words, beside its line. */
+export function brief({ kind, value, number }) {
+  switch (kind) {
+    case ACCEPTED: return 'accepted';
+    case CONTENT: return `→ ${value}`;
+    case VALID: return `save ${value} valid`;
+    case INVALID: return `save ${takenSave(value)} invalid`;
+    case COMMITTED: return 'committed';
+    case AGAIN: return 'runs again';
+    case REFUSED: return `refused ${number}`;
+    default: return '';
+  }
+}
+
+export const cause = (value, number) => `sheet ${causeSheet(value)}, ${RULES[number]}`;
+
+/* ---- Why a step was refused, by the state that it met */
+
+function notTaken(s, t, owners) {
+  const place = s.saves.get(t).place, nodes = new Set(s.copies.filter(c => c.save === t && c.claim).map(c => owners[c.sheet]));
+  return [...nodes].sort().filter(n => s.taken[n] <= place).map(n => `node ${n} has taken ${plural(s.taken[n], 'place')}, and save ${t} stands at place ${place}`);
+}
+
+const waits = (s, t) => entriesOf(s, t).filter(e => !e.granted).map(e => `save ${t} waits for ${saves(e.waitsFor)} on sheet ${e.sheet}`);
+
+export function reason(f, number, s, header) {
+  const t = f.save, save = s?.saves.get(t), name = save && phaseName(save);
+  if (!s) return '';
+  switch (number) {
+    case 4: return `this session has nodes 0 to ${header.nodes - 1} and sheets 0 to ${header.owners.length - 1}, and saves go from 0 to 31`;
+    case 5: return save?.phase === 'F' || save?.phase === 'L' ? `save ${t} is in its ${name}` : `save ${t} is ${name}`;
+    case 6: return `save ${queue(s, f.sheet)[0]?.save}’s X is at the front of sheet ${f.sheet}’s queue`;
+    case 7: return `save ${t} has no copy of sheet ${f.sheet} from this run`;
+    case 9: return s.places.length ? `node ${f.node} has taken all ${plural(s.places.length, 'place')} of the order` : 'no save has been submitted';
+    case 10: return [...notTaken(s, t, header.owners), ...waits(s, t)].join('; ');
+    case 11: return `save ${t} has no entry in the queues of node ${f.node}`;
+    case 13: return `save ${t} never began`;
+    case 14: return `save ${t} is ${name}`;
+    default: return '';
+  }
+}
+
+/* ---- One sentence a step */
+
+const entryWords = e => e.granted ? `holds ${e.mode} on sheet ${e.sheet}` : `waits on sheet ${e.sheet} for ${saves(e.waitsFor)}`;
+const becameWide = (before, after, t) => !before.saves.get(t)?.wide && after.saves.get(t)?.wide ? ' With this its run is wide.' : '';
+
+function said({ value, f }, before, after, header) {
+  const c = copyOf(before, f.save, f.sheet), own = c && c.copy;
+  return `Save ${f.save} reads sheet ${f.sheet}${own ? ' in its own copy' : ` at node ${header.owners[f.sheet]}`} and gets ${value}.${becameWide(before, after, f.save)}`;
+}
+
+function submitted({ f }, before, after) {
+  const t = f.save, was = before.saves.get(t), is = after.saves.get(t), claims = after.copies.filter(c => c.save === t && c.claim).map(c => `${c.claim} on sheet ${c.sheet}`);
+  if (is.phase === 'C') return `Save ${t} ends its ${phaseName(was)} and is committed.`;
+  const again = was.wide ? ` once more, for its run was wide; place ${was.place} is a former place now` : '';
+  return `Save ${t} joins the order at place ${is.place}${again}. It claims ${and(claims) || 'no sheet'}.`;
+}
+
+function why({ value, number }, before) {
+  const t = takenSave(value), k = causeSheet(value), xs = queue(before, k).filter(e => e.mode === 'X').map(e => e.save), c = copyOf(before, t, k);
+  if (number === 3) return `it saw counter ${c?.counter}, and the sheet’s is ${before.sheets[k].counter}`;
+  return number === 1 ? `save ${queue(before, k)[0]?.save}’s X is at the front of the queue` : `the queue holds the X of ${saves(xs)}, and its front entry is an S`;
+}
+
+function took(step, before, after, header) {
+  const { kind, value, number, f } = step, t = takenSave(value), place = before.taken[f.node];
+  if (!before.places[place].last) return `Node ${f.node} comes to place ${place}, a former place of save ${t}: it only moves on.`;
+  const here = entriesOf(after, t).filter(e => header.owners[e.sheet] === f.node).map(entryWords);
+  const found = kind === VALID ? 'valid' : `invalid at sheet ${causeSheet(value)}, ${RULES[number]}: ${why(step, before)}`;
+  return `Node ${f.node} takes save ${t} at place ${place} and finds it ${found}. It ${here.length ? and(here) : 'claims no sheet here'}.`;
+}
+
+function decided({ kind, f }, before, after) {
+  const { runs } = after.saves.get(f.save);
+  if (kind === COMMITTED) return `Save ${f.save} is not marked failed: committed, from its ${runs === 1 ? 'first run' : `run ${runs}`}.`;
+  return `Save ${f.save} is marked failed, and no entry of it waits: it runs again under its locks, in its later run ${runs}.`;
+}
+
+function applied({ f }, before, after) {
+  const t = f.save, changed = after.sheets.flatMap((o, k) => o.content !== before.sheets[k].content ? [`sheet ${k} now holds ${o.content}, counter ${o.counter}`] : []);
+  const gains = [];
+  for (const [u] of after.saves) for (const e of entriesOf(after, u)) if (e.granted && queue(before, e.sheet).some(b => b.save === u && !b.granted)) gains.push(`save ${u} now holds ${e.mode} on sheet ${e.sheet}`);
+  const what = changed.length ? and(changed) : before.saves.get(t).phase === 'D' ? 'nothing is written' : 'no content changes';
+  return `Node ${f.node} carries out save ${t}, which was ${PHASES[before.saves.get(t).phase]}: ${what}. Its entries here go${gains.length ? '; ' + and(gains) : ''}.`;
+}
+
+function dropped({ f }, before, after) {
+  const left = entriesOf(after, f.save).map(e => `sheet ${e.sheet}`);
+  return `Save ${f.save} is given up in its ${phaseName(before.saves.get(f.save))}: dropped.${left.length ? ` Its entries stay until APPLY, on ${and(left)}.` : ''}`;
+}
+
+const tellers = {
+  BEGIN: ({ f }) => `Save ${f.save} begins its first run. It works on copies of its own.`,
+  READ: said,
+  WRITE: ({ f }, before, after) => `Save ${f.save} writes ${f.content} into its own copy of sheet ${f.sheet}.${becameWide(before, after, f.save)}`,
+  SUBMIT: submitted, TAKE: took, DECIDE: decided, APPLY: applied, 'GIVE UP': dropped,
+};
+
+/* `before` and `after` are the states around the step; without them the answer alone is told. */
+export function sentence(step, before, after, header) {
+  if (step.kind === REFUSED) return `Refusal ${step.number}: ${reason(step.f, step.number, before, header) || REFUSALS[step.number]}.`;
+  return before && after && tellers[step.f.name] ? tellers[step.f.name](step, before, after, header) : `${brief(step)}.`;
+}
+
+export function start(header, s) {
+  if (!header.nodes) return `Refusal 1: ${REFUSALS[1]}.`;
+  const zero = s && s.sheets.every(o => o.content === 0 && o.counter === 0);
+  return `Start: ${plural(header.nodes, 'node')}, ${plural(header.owners.length, 'sheet')}${zero ? '; every content and counter is 0' : ''}.`;
+}
+
+/* A line of the report. */
+export function gloss(line) {
+  const [tag, a, b, c] = line.split(' ');
+  switch (tag) {
+    case 'P': return `save ${a}: ${plural(+b, 'run')}, ${OUTCOMES[c]}`;
+    case 'O': return `sheet ${a}: content ${b}, counter ${c}`;
+    case 'T': return `${a} accepted; committed ${b} from the first run, ${c} from a later one`;
+    default: return `stopped at byte ${a}: refusal ${b}`;
+  }
+}
