@@ -4,10 +4,13 @@
 #include "files.h"
 #include <arpa/inet.h>
 #include <microhttpd.h>
+#include <pthread.h>
 #include <stdatomic.h>
 #include <stdio.h>
 #include <stdlib.h>
 #include <string.h>
+#include <sys/socket.h>
+#include <time.h>
 
 static struct MHD_Daemon *the_daemon;
 static const char *own_address;
@@ -30,6 +33,7 @@ static const char *const headers[][2] = {
     {"Cache-Control", "no-store"},
     {"Cross-Origin-Resource-Policy", "same-origin"},
     {"Cross-Origin-Opener-Policy", "same-origin"},
+    {"Connection", "close"}, /* a connection has one request, so that its age is the request's */
 };
 
 static enum MHD_Result reply(struct MHD_Connection *c, unsigned status, const char *type, const char *allow, struct MHD_Response *r)
@@ -199,6 +203,50 @@ static void on_end(void *cls, struct MHD_Connection *c, void **own, enum MHD_Req
     *own = NULL;
 }
 
+/* ---- Who is here, and since when */
+
+static pthread_mutex_t guests_lock = PTHREAD_MUTEX_INITIALIZER;
+static struct guest {
+    int socket; /* below 0: nobody */
+    time_t since;
+} guests[CONNECTIONS];
+
+static time_t seconds(void)
+{
+    struct timespec t;
+    clock_gettime(CLOCK_MONOTONIC, &t);
+    return t.tv_sec;
+}
+
+/* Writes the guest of this socket down, or crosses it out. */
+static void note_guest(int socket, bool comes)
+{
+    pthread_mutex_lock(&guests_lock);
+    for (size_t i = 0; i < CONNECTIONS; i++)
+        if (guests[i].socket == (comes ? -1 : socket)) {
+            guests[i] = comes ? (struct guest){socket, seconds()} : (struct guest){-1, 0};
+            break;
+        }
+    pthread_mutex_unlock(&guests_lock);
+}
+
+/* libmicrohttpd says that a connection is over before it closes its socket, so that none of another connection is shut down here. */
+static void on_connection(void *cls, struct MHD_Connection *c, void **own, enum MHD_ConnectionNotificationCode what)
+{
+    (void)cls, (void)own;
+    note_guest(MHD_get_connection_info(c, MHD_CONNECTION_INFO_CONNECTION_FD)->connect_fd, what == MHD_CONNECTION_NOTIFY_STARTED);
+}
+
+void http_sweep(void)
+{
+    time_t now = seconds();
+    pthread_mutex_lock(&guests_lock);
+    for (size_t i = 0; i < CONNECTIONS; i++)
+        if (guests[i].socket >= 0 && now - guests[i].since > CLIENT_SECONDS)
+            shutdown(guests[i].socket, SHUT_RDWR);
+    pthread_mutex_unlock(&guests_lock);
+}
+
 /* ---- Start and stop */
 
 /* One thread: a request is answered in some milliseconds, and who is slow to send or to take holds nobody up. */
@@ -208,9 +256,11 @@ uint16_t http_start(const char *address, uint16_t port)
     if (inet_pton(AF_INET, address, &here.sin_addr) != 1)
         return 0;
     own_address = address;
+    for (size_t i = 0; i < CONNECTIONS; i++)
+        guests[i].socket = -1;
     the_daemon = MHD_start_daemon(MHD_USE_AUTO | MHD_USE_INTERNAL_POLLING_THREAD, port, NULL, NULL, on_request, NULL, MHD_OPTION_SOCK_ADDR,
-                                  (struct sockaddr *)&here, MHD_OPTION_NOTIFY_COMPLETED, on_end, NULL, MHD_OPTION_CONNECTION_LIMIT,
-                                  (unsigned)CONNECTIONS, MHD_OPTION_CONNECTION_TIMEOUT, (unsigned)IDLE_SECONDS, MHD_OPTION_END);
+                                  (struct sockaddr *)&here, MHD_OPTION_NOTIFY_COMPLETED, on_end, NULL, MHD_OPTION_NOTIFY_CONNECTION,
+                                  on_connection, NULL, MHD_OPTION_CONNECTION_LIMIT, (unsigned)CONNECTIONS, MHD_OPTION_CONNECTION_TIMEOUT, (unsigned)IDLE_SECONDS, MHD_OPTION_END);
     const union MHD_DaemonInfo *bound = the_daemon ? MHD_get_daemon_info(the_daemon, MHD_DAEMON_INFO_BIND_PORT) : NULL;
     own_port = bound ? bound->port : 0;
     return own_port;

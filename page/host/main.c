@@ -6,6 +6,7 @@
 #include <stdio.h>
 #include <stdlib.h>
 #include <string.h>
+#include <time.h>
 
 enum { PORT = 8470 };
 
@@ -60,8 +61,9 @@ int main(int argc, char **argv)
     }
     printf("http://%s:%u/\n", a.address, port);
     fflush(stdout);
-    int caught;
-    sigwait(&ends, &caught);
+    const struct timespec second = {1, 0};
+    while (sigtimedwait(&ends, NULL, &second) < 0)
+        http_sweep();
     http_stop();
     return 0;
 }

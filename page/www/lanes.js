@@ -60,7 +60,7 @@ class Lanes {
   }
 
   x(i) { return i ? LEFT + (i - 0.5) * this.cw : LEFT; }
-  edge() { return LEFT + this.shown * this.cw + (this.shown > this.at ? 0 : 0); }
+  edge() { return LEFT + this.shown * this.cw; }
   y(t) { return TOP + this.saves.indexOf(t) * LANE; }
   until(to) { return to === this.end ? Math.max(this.edge(), this.x(to)) : this.x(to + 1); }
 
@@ -77,22 +77,22 @@ class Lanes {
     if (text) group.append(svg('text', { class: cls + (from >= this.now ? ' future' : ''), x: from + 2, y }, text));
   }
 
-  phases(group, t) {
+  phases(group, labels, t) {
     const y = this.y(t), all = phasesOf(this.states.slice(0, this.end + 1), t);
     all.forEach((p, i) => {
       const from = this.x(p.from), to = this.until(p.to), over = p.what.phase === 'C' || p.what.phase === 'D';
       this.bar(group, `band ${p.what.phase}${p.what.wide ? ' wide' : ''}`, from, to, { y: y + (over ? 21 : 16), height: over ? 6 : 16, rx: 1 });
       const short = p.what.phase === 'L' ? [`run ${p.what.runs}${p.what.wide ? ', wide' : ''}`, p.what.wide ? 'wide' : `run ${p.what.runs}`] : p.what.phase === 'F' ? ['first'] : [];
-      this.label(group, `phase ${p.what.phase}`, [phaseName(p.what), ...short], from, i + 1 < all.length ? to : this.width, y + 11, true);
+      this.label(labels, `phase ${p.what.phase}`, [phaseName(p.what), ...short], from, i + 1 < all.length ? to : this.width, y + 11, true);
     });
   }
 
-  locks(group, t) {
+  locks(group, labels, t) {
     const y = this.y(t), all = locksOf(this.states.slice(0, this.end + 1), t);
     all.forEach((l, i) => {
       const from = this.x(l.from), to = this.until(l.to), next = all[i + 1];
       this.bar(group, `lock ${l.what.waits ? 'waits' : 'holds'}`, from, to, { y: y + 36, height: 5 });
-      this.label(group, `locked ${l.what.waits ? 'waits' : 'holds'}`, [lockName(l.what), l.what.waits ? 'waits' : ''], from, next ? this.x(next.from) : this.width, y + 51, l.what.waits);
+      this.label(labels, `locked ${l.what.waits ? 'waits' : 'holds'}`, [lockName(l.what), l.what.waits ? 'waits' : ''], from, next ? this.x(next.from) : this.width, y + 51, l.what.waits);
     });
   }
 
@@ -142,7 +142,7 @@ class Lanes {
   columns(group) {
     if (this.refused) group.append(svg('rect', { class: 'column bad', x: LEFT + (this.shown - 1) * this.cw, width: this.cw, height: this.height, rx: 4 }));
     else if (this.at) group.append(svg('rect', { class: 'column', x: this.now - this.cw, width: this.cw, height: this.height, rx: 4 }));
-    for (const t of this.saves) group.append(svg('line', { class: 'rail', x1: LEFT, x2: this.edge(), y1: this.y(t) + 24, y2: this.y(t) + 24 }));
+    for (const t of this.saves) group.append(svg('line', { class: 'rail', x1: LEFT, x2: this.x(this.states.findIndex(s => s.saves.has(t))), y1: this.y(t) + 24, y2: this.y(t) + 24 }));
   }
 
   draw() {
@@ -150,10 +150,11 @@ class Lanes {
     const stripe = (id, cls, w, h) => svg('pattern', { id, width: w, height: w, patternUnits: 'userSpaceOnUse', patternTransform: 'rotate(45)' }, svg('rect', { class: `${cls} ground`, width: w, height: w }), svg('rect', { class: cls, width: h, height: w }));
     const g = svg('g', {});
     this.columns(g);
-    for (const t of this.saves) { this.phases(g, t); this.locks(g, t); }
+    const labels = svg('g', {});
+    for (const t of this.saves) { this.phases(g, labels, t); this.locks(g, labels, t); }
     this.numbers(g);
+    g.append(svg('line', { class: 'playhead', x1: this.now, x2: this.now, y1: 16, y2: this.height }), labels);
     this.steps.slice(0, this.shown).forEach((step, i) => this.mark(g, step, i + 1));
-    g.append(svg('line', { class: 'playhead', x1: this.now, x2: this.now, y1: 16, y2: this.height }));
     this.arrows(g);
     root.append(svg('defs', {}, stripe('submitted', 'stripe', 6, 2), stripe('waits', 'waiting', 5, 2.5), stripe('wide', 'widened', 6, 2)), g, this.names());
     return root;

@@ -19,6 +19,11 @@ const number = n => n.toLocaleString('en');
 
 /* ---- Asking the host */
 
+/* While what is shown is older than what was asked for. */
+function busy(yes) {
+  document.querySelector('main').setAttribute('aria-busy', yes);
+}
+
 async function post(path, bytes) {
   let reply;
   try {
@@ -35,6 +40,11 @@ function alarm(text) {
   $('alarm').textContent = text;
 }
 
+function fail(e) {
+  alarm(e.message);
+  busy(false);
+}
+
 function stepOf(bytes, [at, size, kind, value, number]) {
   const own = bytes.slice(at, at + size);
   return { at, size, kind, value, number, f: words.fields(own), words: words.step(own) };
@@ -44,11 +54,12 @@ function stepOf(bytes, [at, size, kind, value, number]) {
 async function ask(keep = Infinity) {
   const mine = ++asked, read = words.compose($('words').value), sent = read.bytes.slice(0, words.limit + 1);
   fitEditor(read.lines.length);
+  busy(true);
   let reply;
   try {
     reply = await post('/session', sent);
   } catch (e) {
-    if (mine === asked) alarm(e.message);
+    if (mine === asked) fail(e);
     return;
   }
   if (mine !== asked) return;
@@ -109,7 +120,8 @@ async function askNext() {
   const mine = ++askedNext, { at, steps, bytes, reply } = now;
   $('ahead').hidden = veiled() || !now.header.nodes;
   if ($('ahead').hidden) $('next').replaceChildren();
-  if (!now.header.nodes || (veiled() && now.states)) return;
+  if (!now.header.nodes || (veiled() && now.states)) return busy(false);
+  busy(true);
   await new Promise(done => setTimeout(done, NEXT_MS));
   if (mine !== askedNext) return;
   const refused = steps[at - 1]?.kind === REFUSED, end = at ? steps[at - 1].at + (refused ? 0 : steps[at - 1].size) : reply.commands;
@@ -117,7 +129,7 @@ async function askNext() {
   try {
     answer = await post('/state', bytes.slice(0, end));
   } catch (e) {
-    if (mine === askedNext) alarm(e.message);
+    if (mine === askedNext) fail(e);
     return;
   }
   if (mine !== askedNext) return;
@@ -126,6 +138,7 @@ async function askNext() {
     now.around = { state, before: refused ? state : parse(answer.before) };
     drawStep();
   }
+  busy(false);
   if (veiled()) return;
   const tried = answer.next.map(([own, kind, value, number]) => ({ bytes: own, f: words.fields(own), kind, value, number }));
   drawNext($('next'), words, { tried, spent: answer.spent }, press);
@@ -313,6 +326,7 @@ function typed() {
   $('example').value = '';
   $('about').textContent = '';
   clearTimeout(typing);
+  busy(true);
   fitEditor($('words').value.split('\n').length);
   typing = setTimeout(async () => { await ask(now?.at ?? Infinity); follow(); }, TYPING_MS);
 }

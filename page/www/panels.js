@@ -124,7 +124,7 @@ export function drawCopies(box, { state: s }) {
     if (!own.length) list.append(el('li', 'quiet', save.phase === 'F' || save.phase === 'L' ? 'none yet' : 'none'));
     if (save.failed) list.append(el('li', 'failed', 'marked failed'));
     if (save.wide) list.append(el('li', 'wide', 'wide'));
-    const row = el('div', 'save', token(s, t), el('span', 'quiet savephase', save.phase === 'L' ? `later run ${save.runs}` : PHASES[save.phase]), list);
+    const row = el('div', `save${save.phase === 'C' || save.phase === 'D' ? ' over' : ''}`, token(s, t), el('span', 'quiet savephase', save.phase === 'L' ? `later run ${save.runs}` : PHASES[save.phase]), list);
     row.dataset.save = t;
     return row;
   }));
