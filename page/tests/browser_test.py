@@ -443,7 +443,7 @@ def veil():
             check(f'{answer!r} is not in the document before its step', (answer in seen) <= (i >= at), i)
     pick('refusal-10.txt')
     n = len(ask(composed(os.path.join(ROOT, 'examples/refusal-10.txt')))['answers'])
-    total = js("return document.getElementById('slider').max")
+    total = str(len(commands(composed(os.path.join(ROOT, 'examples/refusal-10.txt')))))
     for i in range(n):
         step(i)
         check('no refusal is told ahead', 'refused' not in ' '.join(answers()) and hidden('refusal') and text('refusal') == '' and not js("return document.querySelectorAll('#answers .refused, #answers .beyond, .lanes .refused').length")
@@ -549,7 +549,7 @@ def contrast():
             js("document.querySelectorAll('details').forEach(d => { d.open = true; })")
             time.sleep(.1)
             count, low = js(CONTRAST)
-            check(f'{scheme}: {name} after {at}: {count} texts', count > 60 and not low, low)
+            check(f'{scheme}: {name} after {at}: {count} texts', count > 40 and not low, low)
         write('nodes 1\nowners 0\nBEGN 0\nBEGIN 1\n')
         count, low = js(CONTRAST)
         check(f'{scheme}: a line that can’t be read', not low, low)
@@ -596,12 +596,11 @@ def keyboard():
     """Every control by Tab, with a focus that is seen; landmarks, headings and labels."""
     load()
     step(10)
-    js("document.activeElement.blur(); window.scrollTo(0, 0)")
     reached, plain = [], []
     for _ in range(60):
         ActionChains(d).send_keys(Keys.TAB).perform()
         name, ring = js("""const e = document.activeElement, s = getComputedStyle(e), box = e.id === 'words' ? getComputedStyle(e.parentElement).boxShadow !== 'none' : false;
-          return [e.id || e.className || e.tagName.toLowerCase() + ':' + e.textContent.slice(0, 12), (s.outlineStyle !== 'none' && parseFloat(s.outlineWidth) >= 2) || box]""")
+          return [e === document.body ? 'BODY' : e.id || e.className || e.tagName.toLowerCase() + ':' + e.textContent.slice(0, 12), (s.outlineStyle !== 'none' && parseFloat(s.outlineWidth) >= 2) || box]""")
         if name == 'BODY' or (reached and name == reached[0]):
             break
         reached.append(name)
@@ -610,7 +609,8 @@ def keyboard():
     for name in ['skip', 'example', 'veiled', 'words', 'link', 'summary:Bytes', 'first', 'back', 'slider', 'on', 'last', 'save', 'lanes', 'chip', 'here', 'key', 'scroll']:
         check(f'{name} is reached by Tab', name in reached, reached)
     check('each focus is seen', not plain, plain)
-    js("document.activeElement.blur()")
+    load()
+    step(10)
     ActionChains(d).send_keys(Keys.TAB).perform()
     check('the skip link is first and can be seen', js("const e = document.activeElement; return e.className === 'skip' && e.getBoundingClientRect().top >= 0"))
     ActionChains(d).send_keys(Keys.ENTER).perform()

@@ -144,6 +144,15 @@ def grown(ask, rng, steps=40, saves=5):
     return b
 
 
+def commands(b):
+    """The commands of a session whose bytes can all be read, also those behind a stop."""
+    at, all = 2 + b[1], []
+    while at < len(b):
+        all.append(b[at:at + WIDTH[b[at]]])
+        at += WIDTH[b[at]]
+    return all
+
+
 def damaged(rng):
     b = bytearray(W)
     for _ in range(rng.randint(1, 4)):

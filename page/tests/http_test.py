@@ -5,6 +5,10 @@ from common import *
 host, ask, rng, full = Host(sys.argv[1]), Ask(), random.Random(11), longest()
 HERE = f'127.0.0.1:{host.port}'
 
+# 30 saves that wait for each other on three sheets of 64: under 400 commands, and long states
+CROWD = bytes([8, 64] + [k % 8 for k in range(64)]) + b''.join(bytes([1, t]) for t in range(30)) + b''.join(bytes([2, t, k, 3, t, k, 255, 255, 255, 255]) for t in range(30) for k in range(3)) \
+    + b''.join(bytes([4, t]) for t in range(30)) + b''.join(bytes([5, n]) for _ in range(30) for n in range(3)) + bytes([1, 30]) + bytes([2, 30, 40]) * 40
+
 
 def status(method, path, body=None, **headers):
     return host.request(method, path, body, {k.replace('_', '-'): v for k, v in headers.items()})[0]
@@ -165,12 +169,10 @@ def budgets():
     r = host.post('/session', reads(401))
     check('401 are not, and it says so', r['states'] is None and r['limit'] == {'steps': 400, 'bytes': 1048576, 'over': 'steps'}, r.get('limit'))
     check('their answers are all there', len(r['steps']) == 401)
-    crowd = bytes([8, 64] + [k % 8 for k in range(64)]) + b''.join(bytes([1, t]) for t in range(30)) + b''.join(bytes([2, t, k, 3, t, k, 255, 255, 255, 255]) for t in range(30) for k in range(3)) \
-        + b''.join(bytes([4, t]) for t in range(30)) + b''.join(bytes([5, n]) for _ in range(30) for n in range(3)) + bytes([1, 30]) + bytes([2, 30, 40]) * 40
-    r = host.post('/session', crowd)
+    r = host.post('/session', CROWD)
     check('states over the budget of bytes are not drawn, and it says so', len(r['steps']) < 400 and r['states'] is None and r['limit']['over'] == 'bytes', (len(r['steps']), bool(r['states']), r.get('limit')))
     check('and the reply is short', len(json.dumps(r)) < 100000)
-    r = host.post('/state', crowd)
+    r = host.post('/state', CROWD)
     check('a crowd: what names no sheet is tried, and it says that not all is', r['spent'] and len(r['next']) > 32 * 12 + 8, (r['spent'], len(r['next'])))
     busy = bytes([8, 64] + [k % 8 for k in range(64)]) + b''.join(bytes([1, t]) for t in range(32)) + bytes([2, 0, 0]) * 5400
     r = host.post('/state', busy)
@@ -185,7 +187,7 @@ def budgets():
 
 
 def crowd():
-    """Many at once, slow ones, and memory."""
+    """Many at once, and slow ones."""
     sockets = [socket.create_connection(('127.0.0.1', host.port)) for _ in range(100)]
     for s in sockets:
         s.sendall(post_head(len(W)) + W)
@@ -230,14 +232,6 @@ def crowd():
     drip = threading.Thread(target=dripping, args=(results,))
     drip.start()
 
-    for _ in range(300):
-        host.post('/session', crowd)
-    first = host.rss()
-    for i in range(2000):
-        host.post('/state' if i % 5 else '/session', crowd if i % 100 == 0 else full if i % 100 == 50 else W)
-    grew = host.rss() - first
-    check('memory stays', grew < 24000, grew)
-    print(f'resident: {first} KB after 300 large requests, {grew:+} KB after 2,000 more')
     while time.time() - idle_since < 13:
         time.sleep(.2)
     closed = 0
@@ -256,10 +250,25 @@ def crowd():
     check('alive at the end', status('GET', '/') == 200)
 
 
-GROUPS = [surface, sizes, said, budgets, crowd]
-for group in GROUPS:
-    if len(sys.argv) < 3 or group.__name__ in sys.argv[2:]:
-        group()
+def memory():
+    """Thousands of requests leave it as large as some hundreds do."""
+    for _ in range(300):
+        host.post('/session', CROWD)
+    first = host.rss()
+    for i in range(2000):
+        host.post('/state' if i % 5 else '/session', CROWD if i % 100 == 0 else full if i % 100 == 50 else W)
+    grew = host.rss() - first
+    check('memory stays', grew < 16000, grew)
+    print(f'resident: {first} KB after 300 large requests, {grew:+} KB after 2,000 more')
+
+
+GROUPS = [surface, sizes, said, budgets, crowd, memory]
+try:
+    for group in GROUPS:
+        if len(sys.argv) < 3 or group.__name__ in sys.argv[2:]:
+            group()
+except Exception as e:  # a host that breaks the test is seen too
+    check('no exception', False, repr(e))
 ask.stop()
 code, errors = host.stop()
 check('it ends in peace, without a report of the sanitizers', code == 0 and not errors.strip(), (code, errors[-1500:]))

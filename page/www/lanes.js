@@ -1,6 +1,6 @@
 /* The saves as lanes over the steps, as one SVG. Phases come from the S lines and locks from the Q lines of each state; marks come from the steps. */
 import { entriesOf } from './state.js';
-import { brief, INVALID, phaseName, PHASES, REFUSED, takenSave, VALID } from './sentences.js';
+import { brief, INVALID, phaseName, PHASES, ranges, REFUSED, takenSave, VALID } from './sentences.js';
 
 const LANE = 58, TOP = 24, LEFT = 92, MOST_ARROWS = 24;
 const NARROW = 36, WIDE = 48, LEAST = 30; // of a step's column
@@ -41,7 +41,7 @@ function lockOf(s, t) {
 }
 export const locksOf = (states, t) => stretches(states, s => lockOf(s, t), x => `${x.waits} ${x.on}`);
 
-const lockName = lock => lock.waits ? `waits for ${lock.on.join(', ')}` : 'holds';
+const lockName = lock => lock.waits ? `waits for ${ranges(lock.on).join(', ')}` : 'holds';
 
 /* ---- The drawing */
 
@@ -171,7 +171,7 @@ export function draw(model, room) {
 export function tell(model) {
   const end = Math.min(model.states.length - 1, model.shown), states = model.states.slice(0, end + 1), span = x => `from step ${x.from}${x.to === end ? '' : ` to ${x.to}`}`;
   return [...states[end].saves.keys()].sort((a, b) => a - b).map(t => {
-    const phases = phasesOf(states, t).map(p => `${phaseName(p.what)} ${span(p)}`), locks = locksOf(states, t).map(l => `${l.what.waits ? 'waits for save ' + l.what.on.join(', ') : 'holds'} ${span(l)}`);
+    const phases = phasesOf(states, t).map(p => `${phaseName(p.what)} ${span(p)}`), locks = locksOf(states, t).map(l => `${l.what.waits ? `waits for save ${ranges(l.what.on).join(', ')}` : 'holds'} ${span(l)}`);
     return `Save ${t}: ${[...phases, ...locks].join('; ')}.`;
   });
 }

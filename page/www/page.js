@@ -104,7 +104,8 @@ function show(at) {
 
 function drawStep() {
   drawTransport();
-  drawAnswers();
+  if (veiled() || now.told !== 'all') drawAnswers();
+  drawHere();
   drawNotes();
   drawBytes();
   drawLanes();
@@ -180,22 +181,29 @@ function beside(line, own, hidden) {
 }
 
 function drawAnswers() {
-  const { lines, steps, lineOf, at } = now, own = lines.map(() => []), numbers = [], answers = [], here = at ? lineOf[at - 1] : -1;
+  const { lines, steps, lineOf, at } = now, own = lines.map(() => []), numbers = [], answers = [];
   lineOf.forEach((line, i) => own[line]?.push(steps[i]));
   let count = 0;
   lines.forEach((line, i) => {
     const before = count;
     count += own[i].length;
-    const [text, cls] = beside(line, own[i], veiled() && count > at && before < count), look = `${cls}${i === here ? ' here' : ''}`;
-    const answer = el('li', look, text);
+    const [text, cls] = beside(line, own[i], veiled() && count > at && before < count), answer = el('li', cls, text);
     if (text) answer.title = text;
     answers.push(answer);
-    numbers.push(el('div', look, own[i].length && !(veiled() && count > at) ? String(count) : ''));
+    numbers.push(el('div', cls, own[i].length && !(veiled() && count > at) ? String(count) : ''));
   });
   $('numbers').replaceChildren(...numbers);
   $('answers').replaceChildren(...answers);
   fitEditor(lines.length);
   $('size').textContent = `${number(now.bytes.length)} of ${number(words.limit)} bytes, ${number(veiled() ? written() : steps.length)} steps`;
+  now.told = veiled() ? 'some' : 'all';
+}
+
+/* The shown step's line. */
+function drawHere() {
+  const { at, lineOf } = now, here = at ? lineOf[at - 1] : -1;
+  for (const e of $('editor').querySelectorAll('.here')) e.classList.remove('here');
+  for (const list of [$('numbers'), $('answers')]) list.children[here]?.classList.add('here');
   if (here >= 0 && document.activeElement !== $('words')) reveal(here);
 }
 
@@ -242,7 +250,7 @@ function undrawn() {
 
 function drawLanes() {
   const box = $('lanes');
-  $('save').hidden = !now.states || !now.steps.length;
+  $('save').hidden = $('legend').hidden = !now.states || !now.steps.length;
   if ($('save').hidden) {
     box.replaceChildren(el('p', 'quiet', undrawn()));
     return $('told').replaceChildren();
@@ -289,12 +297,15 @@ function insertText(from, to, text) {
   if (text.length > UNDO_LENGTH || !document.execCommand('insertText', false, text)) box.setRangeText(text, from, to, 'end');
 }
 
+/* The whole text; where there was none yet the focus has not to move for it. */
 function setText(text) {
-  const held = document.activeElement;
-  insertText(0, $('words').value.length, text);
-  held?.focus?.();
-  if (held !== $('words')) $('words').blur();
-  $('words').setSelectionRange(0, 0);
+  const held = document.activeElement, box = $('words');
+  if (box.value) {
+    insertText(0, box.value.length, text);
+    box.setSelectionRange(0, 0);
+    if (held !== box) box.blur();
+    held?.focus?.();
+  } else box.value = text;
   clearTimeout(typing);
 }
 
@@ -336,7 +347,7 @@ function typed() {
 /* An example: its first comment, its text without the key at its end, and the key's report. */
 function readExample([name, whole]) {
   const all = whole.split('\n'), isKey = l => /^# (report|answer|shown|steps|the report of):/.test(l), first = all.findIndex(isKey);
-  const text = all.filter((l, i) => !isKey(l) && !(l === '#' && i + 1 === first)).join('\n').replace(/\n+$/, '\n');
+  const text = all.filter((l, i) => !isKey(l) && !(l === '#' && i + 1 === first)).map(l => l.replace(/[ \t]+#/, '  #')).join('\n').replace(/\n+$/, '\n');
   const report = all.filter(l => l.startsWith('# report: ')).map(l => l.slice(10) + '\n').join(''), same = all.find(l => l.startsWith('# the report of: '))?.slice(17);
   return { name, text, report, same, about: all[0].startsWith('#') ? all[0].slice(1).trim() : '' };
 }

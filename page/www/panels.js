@@ -1,6 +1,6 @@
 /* The panels beside the lanes. Each draws what a state's text or the answers say, and works nothing out. */
-import { entriesOf, queue } from './state.js';
-import { brief, cause, gloss, INVALID, phaseName, PHASES, REFUSALS, REFUSED, takenSave, VALID } from './sentences.js';
+import { queue } from './state.js';
+import { brief, cause, gloss, INVALID, PHASES, ranges, REFUSALS, REFUSED, takenSave, VALID } from './sentences.js';
 
 const MANY_SHEETS = 12, MANY_CHIPS = 8;
 
@@ -48,15 +48,6 @@ function sheet(s, k, named) {
 /* A sheet that nothing has happened to, as the state has it. */
 const untouched = (s, k) => s.sheets[k].content === 0 && s.sheets[k].counter === 0 && !queue(s, k).length && !s.copies.some(c => c.sheet === k);
 
-function ranges(ks) {
-  const parts = [];
-  for (const k of ks) {
-    if (parts.length && parts.at(-1)[1] === k - 1) parts.at(-1)[1] = k;
-    else parts.push([k, k]);
-  }
-  return parts.map(([a, b]) => a === b ? `${a}` : `${a} to ${b}`).join(', ');
-}
-
 export function drawNodes(box, { state: s, header, step }) {
   if (!s) return box.replaceChildren(quiet('There is no state.'));
   const fold = header.owners.length > MANY_SHEETS;
@@ -64,7 +55,7 @@ export function drawNodes(box, { state: s, header, step }) {
     const mine = header.owners.flatMap((o, k) => o === n ? [k] : []), shown = mine.filter(k => !fold || k === step?.f.sheet || !untouched(s, k)), rest = mine.filter(k => !shown.includes(k));
     const node = el('div', `node${step?.f.node === n ? ' acts' : ''}`, el('div', 'nodehead', el('h4', '', `Node ${n}`), el('span', 'quiet', `has taken ${taken} of ${s.places.length}`)), ...shown.map(k => sheet(s, k, step?.f.sheet === k)));
     node.dataset.node = n;
-    if (rest.length) node.append(quiet(`Sheet${rest.length > 1 ? 's' : ''} ${ranges(rest)}: content 0, counter 0, no entry.`));
+    if (rest.length) node.append(quiet(`Sheet${rest.length > 1 ? 's' : ''} ${ranges(rest).join(', ')}: content 0, counter 0, no entry.`));
     if (!mine.length) node.append(quiet('It owns no sheet.'));
     return node;
   }));

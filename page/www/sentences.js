@@ -20,7 +20,17 @@ export const causeSheet = value => Math.floor(value / 65536);
 export const phaseName = save => save.phase === 'L' ? `later run ${save.runs}${save.wide ? ', wide' : ''}` : PHASES[save.phase];
 const plural = (n, word) => `${n} ${word}${n === 1 ? '' : 's'}`;
 const and = parts => parts.length < 2 ? parts.join('') : `${parts.slice(0, -1).join(', ')} and ${parts.at(-1)}`;
-const saves = list => and(list.map(t => `save ${t}`));
+
+/* Numbers in their order, those that follow each other as one: 0 to 3, 7. */
+export function ranges(numbers) {
+  const parts = [];
+  for (const n of numbers) {
+    if (parts.length && parts.at(-1).at(-1) === n - 1) parts.at(-1).push(n);
+    else parts.push([n]);
+  }
+  return parts.flatMap(p => p.length < 3 ? p.map(String) : [`${p[0]} to ${p.at(-1)}`]);
+}
+const saves = list => `save${list.length > 1 ? 's' : ''} ${and(ranges(list))}`;
 
 /* An answer in two or three words, beside its line. */
 export function brief({ kind, value, number }) {
