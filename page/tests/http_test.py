@@ -39,7 +39,7 @@ def post_head(length, path='/session', host_name=HERE):
 def surface():
     """Files, methods, types and names."""
     for path, kind in {'/': 'text/html', '/page.css': 'text/css', '/colours.css': 'text/css', '/lanes.css': 'text/css', '/page.js': 'text/javascript', '/words.js': 'text/javascript',
-                       '/state.js': 'text/javascript', '/sentences.js': 'text/javascript', '/lanes.js': 'text/javascript', '/panels.js': 'text/javascript',
+                       '/state.js': 'text/javascript', '/dom.js': 'text/javascript', '/editor.js': 'text/javascript', '/examples.js': 'text/javascript', '/sentences.js': 'text/javascript', '/lanes.js': 'text/javascript', '/panels.js': 'text/javascript',
                        '/icon.svg': 'image/svg+xml', '/examples.json': 'application/json', '/words.json': 'application/json'}.items():
         code, headers, body = host.request('GET', path)
         check(f'GET {path}', code == 200 and headers['Content-Type'].startswith(kind) and len(body) > 100, (code, dict(headers)))

@@ -1,16 +1,11 @@
 /* The saves as lanes over the steps, as one SVG. Phases come from the S lines and locks from the Q lines of each state; marks come from the steps. */
+import { svg } from './dom.js';
 import { entriesOf } from './state.js';
 import { brief, INVALID, phaseName, PHASES, ranges, REFUSED, takenSave, VALID } from './sentences.js';
 
 const LANE = 58, TOP = 24, LEFT = 92, MOST_ARROWS = 24;
-const NARROW = 36, WIDE = 48, LEAST = 30; // of a step's column
-
-const svg = (tag, at, ...kids) => {
-  const e = document.createElementNS('http://www.w3.org/2000/svg', tag);
-  for (const k in at) e.setAttribute(k, at[k]);
-  e.append(...kids);
-  return e;
-};
+const NARROW = 36, WIDE = 54, LEAST = 30; // of a step's column
+const LOOSE = 30; // the row of a refused step that has no lane
 
 const pen = document.createElement('canvas').getContext('2d');
 function wide(text, px, bold) {
@@ -55,7 +50,7 @@ class Lanes {
     this.saves = [...this.states[this.end].saves.keys()].sort((a, b) => a - b);
     this.refused = this.steps[this.shown - 1]?.kind === REFUSED;
     this.width = LEFT + this.cw * n + 84;
-    this.height = TOP + Math.max(1, this.saves.length) * LANE + 2;
+    this.height = TOP + this.saves.length * LANE + (this.refused && !this.saves.includes(this.steps[this.shown - 1].f.save) ? LOOSE : 2);
     this.now = LEFT + this.at * this.cw;
   }
 
@@ -98,7 +93,7 @@ class Lanes {
 
   mark(group, step, i) {
     const taken = step.kind === VALID || step.kind === INVALID ? takenSave(step.value) : step.f.save, row = this.saves.indexOf(taken), bad = step.kind === REFUSED;
-    const g = svg('g', { class: `mark${bad ? ' refused' : ''}${i > this.at ? ' future' : ''}`, 'data-step': i, transform: `translate(${this.x(i)} ${row < 0 ? TOP + 24 : this.y(taken) + 24})` });
+    const g = svg('g', { class: `mark${bad ? ' refused' : ''}${i > this.at ? ' future' : ''}`, 'data-step': i, transform: `translate(${this.x(i)} ${row < 0 ? this.height - LOOSE / 2 : this.y(taken) + 24})` });
     g.append(svg('title', {}, `${i}. ${step.words}: ${brief(step)}`));
     if (bad) g.append(svg('circle', { class: 'spot', r: 11 }), svg('path', { class: 'cross', d: 'M-5.5 -5.5L5.5 5.5M5.5 -5.5L-5.5 5.5' }));
     else this.pill(g, step);
@@ -161,10 +156,10 @@ class Lanes {
   }
 }
 
-/* model: { steps, states, at, shown, total }. */
+/* model: { steps, states, at, shown, total }. The shown step's column lies between `from` and `to`, beside the names and with what comes next. */
 export function draw(model, room) {
   const lanes = new Lanes(model, room);
-  return { root: lanes.draw(), now: lanes.now, column: lanes.cw };
+  return { root: lanes.draw(), from: lanes.now - lanes.cw - LEFT, to: lanes.now + lanes.cw };
 }
 
 /* The lanes told, a save at a time. */

@@ -1,15 +1,10 @@
 /* The panels beside the lanes. Each draws what a state's text or the answers say, and works nothing out. */
+import { el } from './dom.js';
 import { queue } from './state.js';
 import { brief, cause, gloss, INVALID, PHASES, ranges, REFUSALS, REFUSED, takenSave, VALID } from './sentences.js';
 
-const MANY_SHEETS = 12, MANY_CHIPS = 8;
+const MANY_SHEETS = 12, MANY_CHIPS = 8, MANY_STEPS = 40;
 
-export const el = (tag, cls, ...kids) => {
-  const e = document.createElement(tag);
-  if (cls) e.className = cls;
-  e.append(...kids);
-  return e;
-};
 const quiet = text => el('p', 'quiet', text);
 const sr = text => el('span', 'sr', text);
 const code = (...kids) => el('code', '', ...kids);
@@ -150,7 +145,7 @@ function chips(words, list, press) {
 function refusedNow(words, list) {
   const by = new Map();
   for (const t of list) by.set(t.number, [...(by.get(t.number) ?? []), words.step(t.bytes)]);
-  const rows = [...by].sort((a, b) => a[0] - b[0]).map(([number, steps]) => el('li', '', el('b', '', `${number}`), ` ${REFUSALS[number]}: `, code(steps.slice(0, 40).join(', ')), steps.length > 40 ? ` and ${steps.length - 40} more` : ''));
+  const rows = [...by].sort((a, b) => a[0] - b[0]).map(([number, steps]) => el('li', '', el('b', '', `${number}`), ` ${REFUSALS[number]}: `, code(steps.slice(0, MANY_STEPS).join(', ')), steps.length > MANY_STEPS ? ` and ${steps.length - MANY_STEPS} more` : ''));
   return el('details', 'refusednow', el('summary', '', `Refused here: ${list.length}`), el('ul', '', ...rows));
 }
 

@@ -50,10 +50,8 @@ export const cause = (value, number) => `sheet ${causeSheet(value)}, ${RULES[num
 
 /* ---- Why a step was refused, by the state that it met */
 
-function notTaken(s, t, owners) {
-  const place = s.saves.get(t).place, nodes = new Set(s.copies.filter(c => c.save === t && c.claim).map(c => owners[c.sheet]));
-  return [...nodes].sort().filter(n => s.taken[n] <= place).map(n => `node ${n} has taken ${plural(s.taken[n], 'place')}, and save ${t} stands at place ${place}`);
-}
+/* Where a save stands in the order, and how far the nodes are. */
+const standing = (s, t) => `save ${t} stands at place ${s.saves.get(t).place}, and ${and(s.taken.map((taken, n) => `node ${n} has taken ${plural(taken, 'place')}`))}`;
 
 const waits = (s, t) => entriesOf(s, t).filter(e => !e.granted).map(e => `save ${t} waits for ${saves(e.waitsFor)} on sheet ${e.sheet}`);
 
@@ -66,7 +64,7 @@ export function reason(f, number, s, header) {
     case 6: return `save ${queue(s, f.sheet)[0]?.save}’s X is at the front of sheet ${f.sheet}’s queue`;
     case 7: return `save ${t} has no copy of sheet ${f.sheet} from this run`;
     case 9: return s.places.length ? `node ${f.node} has taken all ${plural(s.places.length, 'place')} of the order` : 'no save has been submitted';
-    case 10: return [...notTaken(s, t, header.owners), ...waits(s, t)].join('; ');
+    case 10: return waits(s, t).join('; ') || standing(s, t);
     case 11: return `save ${t} has no entry in the queues of node ${f.node}`;
     case 13: return `save ${t} never began`;
     case 14: return `save ${t} is ${name}`;

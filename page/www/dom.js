@@ -1,0 +1,19 @@
+/* Small tools for the document. Text is always put in as text. */
+
+export const $ = id => document.getElementById(id);
+
+export const el = (tag, cls, ...kids) => {
+  const e = document.createElement(tag);
+  if (cls) e.className = cls;
+  e.append(...kids);
+  return e;
+};
+
+export const svg = (tag, at, ...kids) => {
+  const e = document.createElementNS('http://www.w3.org/2000/svg', tag);
+  for (const k in at) e.setAttribute(k, at[k]);
+  e.append(...kids);
+  return e;
+};
+
+export const figures = n => n.toLocaleString('en');
