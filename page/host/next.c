@@ -1,6 +1,7 @@
 /* One state, and what may come next: steps are tried behind the prefix, and the engine answers each. Which ones it takes is not known here. */
+#include "budget.h"
 #include "calls.h"
-#include "steps.h"
+#include "vocabulary.h"
 #include "words.h"
 #include <stdlib.h>
 #include <string.h>

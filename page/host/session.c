@@ -1,6 +1,7 @@
 /* A whole session: one pass for its answers, and a state for each prefix where the budget allows it. */
+#include "budget.h"
 #include "calls.h"
-#include "steps.h"
+#include "vocabulary.h"
 #include <stdlib.h>
 
 static void put_report(struct json *j, const uint8_t *session, size_t length)
@@ -11,10 +12,15 @@ static void put_report(struct json *j, const uint8_t *session, size_t length)
     json_string(j, (const char *)report, bytes);
 }
 
-/* An offset and a size, as two of the calls give them. */
-static void put_part(struct json *j, const char *name, uint64_t part)
+/* The refusal's offset and number, if there is one, and the part of the session that is shown. */
+static void put_refusal(struct json *j, const uint8_t *session, size_t length)
 {
-    json_put(j, ",\"%s\":[%lu,%lu]", name, (unsigned long)(part >> 32), (unsigned long)(part & 0xffffffff));
+    uint64_t last = cusphewa_answer(session, length), part = cusphewa_shown(session, length);
+    if (CUSPHEWA_KIND(last) == CUSPHEWA_REFUSED)
+        json_put(j, ",\"refusal\":[%llu,%u]", (unsigned long long)CUSPHEWA_VALUE(last), CUSPHEWA_NUMBER(last));
+    else
+        json_put(j, ",\"refusal\":null");
+    json_put(j, ",\"shown\":[%lu,%lu]", (unsigned long)(part >> 32), (unsigned long)(part & 0xffffffff));
 }
 
 /* The number of nodes is the session's first byte; the engine says where the owners stand. Gives back where the commands begin, or 0. */
@@ -120,7 +126,7 @@ void put_session(struct json *j, const uint8_t *session, size_t length)
     find_steps(s, session, length, from);
     put_steps(j, s, from);
     put_report(j, session, length);
-    put_part(j, "shown", cusphewa_shown(session, length));
+    put_refusal(j, session, length);
     put_listed(j, session, length);
     if (from)
         put_states(j, s, session, from);

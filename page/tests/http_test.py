@@ -99,7 +99,7 @@ def said():
     """What is said, against the library and its programs."""
     def compare(b, programs):
         r, own = host.post('/session', b), ask(b)
-        good = r['length'] == len(b) and r['report'] == own['report'] and [s[2:] for s in r['steps']] == own['answers'] and r['shown'] == own['shown']
+        good = r['length'] == len(b) and r['report'] == own['report'] and [s[2:] for s in r['steps']] == own['answers'] and r['shown'] == own['shown'] and r['refusal'] == (own['answer'][1:] if own['answer'][0] == 7 else None)
         at = r['commands']
         for i, (start, size, kind, value, number) in enumerate(r['steps']):
             good = good and start == at and (size == WIDTH.get(b[at]) if kind != 7 else [start, size] == own['shown'] and value == start)
@@ -188,18 +188,19 @@ def budgets():
 
 def crowd():
     """Many at once, and slow ones."""
-    sockets = [socket.create_connection(('127.0.0.1', host.port)) for _ in range(100)]
-    for s in sockets:
-        s.sendall(post_head(len(W)) + W)
-    got = []
-    for s in sockets:
-        s.settimeout(20)
-        text = b''
-        while part := s.recv(65536):
-            text += part
-        got.append(text)
-        s.close()
-    check('100 at once', all(g.startswith(b'HTTP/1.1 200') and b'T 17 1 1' in g for g in got), [g[:20] for g in got if not g.startswith(b'HTTP/1.1 200')][:3])
+    for many in (100, 400):
+        sockets = [socket.create_connection(('127.0.0.1', host.port)) for _ in range(many)]
+        for s in sockets:
+            s.sendall(post_head(len(W)) + W)
+        got = []
+        for s in sockets:
+            s.settimeout(20)
+            text = b''
+            while part := s.recv(65536):
+                text += part
+            got.append(text)
+            s.close()
+        check(f'{many} at once', all(g.startswith(b'HTTP/1.1 200') and b'T 17 1 1' in g for g in got), [g[:20] for g in got if not g.startswith(b'HTTP/1.1 200')][:3])
     slow = [socket.create_connection(('127.0.0.1', host.port)) for _ in range(20)]
     for s in slow[:10]:
         s.sendall(post_head(58))
@@ -250,6 +251,20 @@ def crowd():
     check('alive at the end', status('GET', '/') == 200)
 
 
+def starting():
+    """Another address, and what it does not start with."""
+    other = subprocess.Popen([sys.argv[1], '0', '--listen', '127.0.0.2'], stdout=subprocess.PIPE, text=True)
+    port = int(other.stdout.readline().strip().rstrip('/').rsplit(':', 1)[1])
+    ask_other = lambda name: subprocess.run(['curl', '-s', '-o', '/dev/null', '-w', '%{http_code}', '-H', f'Host: {name}', f'http://127.0.0.2:{port}/'], capture_output=True, text=True).stdout
+    check('--listen', ask_other(f'127.0.0.2:{port}') == '200' and ask_other('evil.example') == '403' and ask_other(f'127.0.0.3:{port}') == '403')
+    check('and nowhere else', subprocess.run(['curl', '-s', '-m', '2', f'http://127.0.0.1:{port}/'], capture_output=True).returncode == 7)
+    other.terminate()
+    check('it ends when told to', other.wait(10) == 0)
+    for args, code in [(['--listen', '0.0.0.0'], 2), (['x'], 2), (['70000'], 2), (['-1'], 2), (['--listen'], 2), ([str(host.port)], 1), (['0', '--listen', 'localhost'], 1), (['0', '--listen', '203.0.113.7'], 1)]:
+        run = subprocess.run([sys.argv[1], *args], capture_output=True, text=True, timeout=10)
+        check(f'does not start with {args}', run.returncode == code and run.stderr.count('\n') == 1 and not run.stdout, run)
+
+
 def memory():
     """Thousands of requests leave it as large as some hundreds do."""
     for _ in range(300):
@@ -262,7 +277,7 @@ def memory():
     print(f'resident: {first} KB after 300 large requests, {grew:+} KB after 2,000 more')
 
 
-GROUPS = [surface, sizes, said, budgets, crowd, memory]
+GROUPS = [starting, surface, sizes, said, budgets, crowd, memory]
 try:
     for group in GROUPS:
         if len(sys.argv) < 3 or group.__name__ in sys.argv[2:]:

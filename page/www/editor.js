@@ -20,7 +20,7 @@ function besideOther(now, line, veiled) {
   const { reply, steps } = now, inHeader = line.bytes.length > 0 && line.at < reply.commands;
   if (!line.words.length || inHeader || (veiled && now.at < steps.length)) return ['', ''];
   if (!line.bytes.length) return ['not read', 'beyond'];
-  const [offset, number] = reply.listed, also = number && holds(line, offset) ? `, refused ${number}` : '';
+  const [offset, number] = reply.listed, also = number && holds(line, offset) ? ` (${number})` : '';
   return steps.at(-1)?.kind === REFUSED ? [`not reached${also}`, 'beyond'] : ['', ''];
 }
 
@@ -72,15 +72,14 @@ function message(now, limit, ahead) {
 
 /* `met` is the state that the refused step met, if it is known. */
 export function drawNotes(now, limit, veiled, met) {
-  const { reply, steps, bytes, header, at } = now, last = steps.at(-1), box = $('refusal'), ahead = veiled && at < steps.length, said = message(now, limit, ahead);
+  const { reply, steps, bytes, header, at } = now, box = $('refusal'), ahead = veiled && at < steps.length, said = message(now, limit, ahead);
   $('wrong').hidden = !said;
   $('wrong').textContent = said;
-  const bad = !header.nodes && bytes.length ? { offset: 0, number: 1 } : last?.kind === REFUSED ? { offset: last.value, number: last.number } : null;
-  box.hidden = !bad || ahead;
+  box.hidden = !reply.refusal || !bytes.length || ahead;
   box.replaceChildren();
   if (box.hidden) return;
-  const cause = last ? reason(last.f, bad.number, met, header) : '', [from, size] = reply.shown;
-  box.append(el('b', '', `Refusal ${bad.number}`), ` at byte ${figures(bad.offset)}: ${REFUSALS[bad.number]}.`, cause ? ` Here ${cause}.` : '');
+  const [offset, number] = reply.refusal, cause = steps.length ? reason(steps.at(-1).f, number, met, header) : '', [from, size] = reply.shown;
+  box.append(el('b', '', `Refusal ${number}`), ` at byte ${figures(offset)}: ${REFUSALS[number]}.`, cause ? ` Here ${cause}.` : '');
   if (size) box.append(' ', el('code', '', hex(bytes.slice(from, from + size))));
 }
 

@@ -181,25 +181,24 @@ function styles() {
   return rulesOf('/lanes.css').map(r => r.cssText.replace(/var\((--[a-z-]+)\)/g, (_, name) => palette.getPropertyValue(name).trim())).join('\n');
 }
 
+/* What the colours and shapes mean, in a row. */
 function key(y) {
-  const g = svg('g', {}), items = [['F', 16], ['S', 16], ['L', 16], ['C', 6], ['D', 6]];
+  const g = svg('g', {}), band = (phase, height) => [PHASES[phase], x => svg('rect', { class: `band ${phase}`, x, y: y - height / 2 - 4, width: 18, height })];
+  const lock = name => [name, x => svg('rect', { class: `lock ${name}`, x, y: y - 6, width: 18, height: 5 })], mark = (name, rx) => [name, x => svg('rect', { class: 'pill', x: x + 3, y: y - 10, width: 13, height: 13, rx })];
   let x = 12;
-  for (const [phase, height] of items) {
-    g.append(svg('rect', { class: `band ${phase}`, x, y: y - height / 2 - 4, width: 18, height }), svg('text', { class: 'caption', x: x + 23, y }, PHASES[phase]));
-    x += 40 + wide(PHASES[phase], 11);
+  for (const [name, shape] of [band('F', 12), band('S', 12), band('L', 12), band('C', 6), band('D', 6), lock('holds'), lock('waits'), mark('by a node', 2), mark('by a save', 6.5)]) {
+    g.append(shape(x), svg('text', { class: 'caption', x: x + 23, y }, name));
+    x += 38 + wide(name, 11);
   }
-  g.append(svg('rect', { class: 'lock holds', x, y: y - 6, width: 18, height: 5 }), svg('text', { class: 'caption', x: x + 23, y }, 'holds'));
-  x += 40 + wide('holds', 11);
-  g.append(svg('rect', { class: 'lock waits', x, y: y - 6, width: 18, height: 5 }), svg('text', { class: 'caption', x: x + 23, y }, 'waits'));
-  return g;
+  return { row: g, width: x };
 }
 
 export function toFile(model, caption) {
-  const lanes = new Lanes(model, 0), inner = lanes.draw(), width = Math.max(lanes.width + 24, 640), height = lanes.height + 76;
+  const lanes = new Lanes(model, 0), inner = lanes.draw(), height = lanes.height + 76, { row, width: least } = key(height - 12), width = Math.max(lanes.width + 24, least);
   inner.setAttribute('x', 12);
   inner.setAttribute('y', 44);
   inner.removeAttribute('aria-hidden');
   const root = svg('svg', { class: 'lanes', width, height, viewBox: `0 0 ${width} ${height}` }, svg('title', {}, caption), svg('style', {}, styles()),
-    svg('rect', { class: 'ground', width, height }), svg('text', { class: 'name', x: 12, y: 26 }, caption), inner, key(height - 12));
+    svg('rect', { class: 'ground', width, height }), svg('text', { class: 'name', x: 12, y: 26 }, caption), inner, row);
   return '<?xml version="1.0" encoding="UTF-8"?>\n' + new XMLSerializer().serializeToString(root) + '\n';
 }

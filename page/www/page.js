@@ -297,7 +297,7 @@ async function copyLink() {
 const go = at => now && show(Math.max(0, Math.min(now.steps.length, at)));
 
 function onKey(e) {
-  if (e.target.matches('textarea, select, input[type=range]') || e.ctrlKey || e.metaKey || e.altKey || !now) return;
+  if (e.target.matches('textarea, select, input[type=range], .scroll') || e.ctrlKey || e.metaKey || e.altKey || !now) return;
   const to = { ArrowRight: now.at + 1, ArrowLeft: now.at - 1, Home: 0, End: Infinity }[e.key];
   if (to === undefined) return;
   e.preventDefault();

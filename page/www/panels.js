@@ -170,5 +170,6 @@ export function drawNext(box, words, { tried, spent }, press) {
 
 export function drawLegend(box) {
   const items = [...'FSLCD'].map(p => el('li', '', el('i', `swatch ${p}`), PHASES[p]));
-  box.replaceChildren(...items, el('li', '', el('i', 'swatch square'), 'by a node'), el('li', '', el('i', 'swatch round'), 'by a save'));
+  const locks = ['holds', 'waits'].map(l => el('li', '', el('i', `swatch ${l}`), l));
+  box.replaceChildren(...items, ...locks, el('li', '', el('i', 'swatch square'), 'by a node'), el('li', '', el('i', 'swatch round'), 'by a save'));
 }

@@ -1,6 +1,7 @@
 /* The vocabulary of host/words.h, for the page. */
+#include "vocabulary.h"
+#include "budget.h"
 #include "calls.h"
-#include "steps.h"
 #include "words.h"
 #include <string.h>
 
