@@ -223,6 +223,46 @@ def bad_texts():
     check('nothing is said of a good one', hidden('wrong') and text('wrong') == '')
 
 
+def spoilt(words):
+    """A text with one or two of its words spoilt."""
+    lines = words.split('\n')
+    for _ in range(rng.randint(1, 2)):
+        i = rng.randrange(len(lines))
+        bits = lines[i].split(' ')
+        j = rng.randrange(len(bits))
+        bits[j] = rng.choice(['', 'x', '-1', '00', '07', '256', '255', '64', '32', '8', '4294967295', '4294967296', '99999999999999999999', 'GIVE', 'UP', 'GIVE UP', 'begin', 'é', '\t', '#', '<b>', 'a' * 50, 'ß' * 30, bits[j] + ' 1', bits[j].lower()])
+        lines[i] = ' '.join(bits)
+        if rng.random() < .1:
+            del lines[i]
+    return '\n'.join(lines)
+
+
+def composing():
+    """Spoilt texts: the bytes and the messages are compose's."""
+    load()
+    texts = [open(p, encoding='utf-8').read() for p in examples(kinds='.txt')]
+    spoilt_texts = [spoilt(rng.choice(texts)) for _ in range(1500)]
+    read = d.execute_async_script("""const [texts, done] = arguments; (async () => {
+      const { Words } = await import('/words.js'), w = new Words(await (await fetch('/words.json')).json());
+      done(texts.map(t => { const r = w.compose(t); return [r.hex, r.message, r.late, r.bytes]; })); })()""", spoilt_texts)
+    asked = 0
+    for words, (in_hex, message, late, own) in zip(spoilt_texts, read):
+        if in_hex:
+            continue
+        run = subprocess.run([os.path.join(OUT, 'compose')], input=words.encode(), capture_output=True)
+        want = run.stderr.decode().strip('\n')
+        if run.returncode == 0:
+            check('composed', not message and bytes(own) == run.stdout, (words, message))
+        elif 'refused' not in want:
+            check('a message', message == want and not late, (words, message, want))
+        else:
+            check('a refusal is not a matter of spelling', not message or late, (words, message, want))
+            if asked < 25:
+                asked += 1
+                write(words)
+                check('the page says the refusal', text('wrong') == want, (words, text('wrong'), want))
+
+
 def all_examples():
     """Every example against its key and against compose's bytes."""
     load()
@@ -643,7 +683,7 @@ def gone():
     check('the host is gone, and it is said', text('alarm') == 'The host does not answer. Is it still running?' and not hidden('alarm'), text('alarm'))
 
 
-GROUPS = [walk, typing, bad_texts, all_examples, compare, keys, chips, stale, veil, links, files, contrast, widths, keyboard, gone]
+GROUPS = [walk, typing, bad_texts, composing, all_examples, compare, keys, chips, stale, veil, links, files, contrast, widths, keyboard, gone]
 if __name__ == '__main__':
     view()
     try:

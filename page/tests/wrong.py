@@ -28,6 +28,8 @@ WRONG = [
     ('the number of steps tells of a stop ahead', 'www/page.js', "most = veiled() ? now.written : steps.length;", 'most = steps.length;', BROWSER, 'veil'),
     ('contents spelled from the wrong end', 'www/words.js', 'value / 256 ** (width - 1 - i)', 'value / 256 ** i', BROWSER, 'all_examples'),
     ('no-break spaces taken for blanks', 'www/words.js', 'return text.split(/[ \\t]+/)', 'return text.split(/\\s+/)', BROWSER, 'bad_texts'),
+    ('a message of a later line first', 'www/words.js', 'if (read.message && !(read.late && !e.late)) return;', 'if (read.message && read.late && !e.late) return;', BROWSER, 'composing'),
+    ('numbers with leading zeros', 'www/words.js', "if (word.length > 1 && word[0] === '0')", 'if (false)', BROWSER, 'composing'),
     ('a link without its last byte', 'www/words.js', 'for (const b of bytes) binary', 'for (const b of bytes.slice(0, -1)) binary', BROWSER, 'links'),
     ('the step is put at another line', 'www/page.js', ".slice(0, line + 1).join", ".slice(0, line + 2).join", BROWSER, 'chips'),
     ('what may come next of the step before', 'www/page.js', 'refusedHere() ? step.at : step.at + step.size', 'step.at', BROWSER, 'chips'),

@@ -63,11 +63,11 @@ export function drawHere(now) {
 
 /* What `compose` would say of this text; the engine's reading of all bytes tells it what the text alone does not. */
 function message(now, limit, ahead) {
-  const { lines, bytes, reply } = now;
-  if (now.message || now.hex || !bytes.length) return now.message;
+  const { lines, bytes, reply } = now, [offset, number] = reply.listed;
+  if (now.hex || (now.message && !now.late)) return now.message;
   if (bytes.length > limit) return `refused 1: the session is over ${figures(limit)} bytes`;
-  if (!now.header.nodes) return `lines ${lines.findIndex(l => l.head) + 1} and ${lines.findLastIndex(l => l.head) + 1}: refused 1: the header is out of range`;
-  return reply.listed[1] === 4 && !ahead ? `line ${lineWith(now, reply.listed[0]) + 1}: refused 4: ${REFUSALS[4]}` : '';
+  if (!now.header.nodes && bytes.length) return `lines ${lines.findIndex(l => l.head) + 1} and ${lines.findLastIndex(l => l.head) + 1}: refused 1: the header is out of range`;
+  return number === 4 && !ahead ? `line ${lineWith(now, offset) + 1}: refused 4: ${REFUSALS[4]}` : now.message;
 }
 
 /* `met` is the state that the refused step met, if it is known. */

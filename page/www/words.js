@@ -23,6 +23,7 @@ function instead(word) {
   return `, not "${shown.join('')}${bytes.length > MOST_SHOWN ? '...' : ''}"`;
 }
 
+const isByte = word => /^[0-9a-f]{2}$/i.test(word);
 const list = (names, last) => names.map((n, i) => (i === 0 ? '' : i + 1 < names.length ? ', ' : last) + n).join('');
 
 /* A number has one spelling. */
@@ -32,8 +33,13 @@ function number(word) {
   return Number(word);
 }
 
-/* What can't be read of a line. */
-class Wrong extends Error {}
+/* What can't be read of a line; `late` where it is spelled well and does not fit. */
+class Wrong extends Error {
+  constructor(message, late = false) {
+    super(message);
+    this.late = late;
+  }
+}
 
 const spelled = (value, width) => Array.from({ length: width }, (_, i) => Math.floor(value / 256 ** (width - 1 - i)) % 256);
 const valued = bytes => bytes.reduce((n, b) => n * 256 + b, 0);
@@ -45,62 +51,53 @@ export class Words {
 
   /* ---- From words to bytes */
 
-  /* A text's lines with the bytes and the offset of each, up to the first that can't be read; `message` says why in compose's words. */
+  /* A text's lines with the bytes and the offset of each, up to the first that can't be read; `message` says why in compose's words. It is `late` where
+     the words can be read and a number does not fit its bytes: compose says so only after it has read all lines. */
   compose(text) {
     const lines = text.split('\n').map(t => ({ words: split(t), bytes: [], at: -1, wrong: '' }));
     const end = lines.length > 1 && text.endsWith('\n') ? lines.length - 1 : text === '' ? 0 : lines.length;
-    const first = lines.find(l => l.words.length);
-    const read = { lines, bytes: [], message: '', hex: !!first && /^[0-9a-f]{2}$/i.test(first.words[0]), end };
-    if (read.hex) this.readHex(read);
-    else this.readWords(read);
+    const first = lines.find(l => l.words.length), read = { lines, bytes: [], message: '', late: false, hex: !!first && first.words.every(isByte), end };
+    if (read.hex) for (const l of lines) this.attempt(read, l, () => this.readHex(l));
+    else this.readWords(read, lines.filter(l => l.words.length));
     return read;
   }
 
-  stop(read, line, message) {
-    if (line) line.wrong = message;
-    read.message = `line ${line ? read.lines.indexOf(line) + 1 : read.end + 1}: ${message}`;
-  }
-
-  readHex(read) {
-    for (const l of read.lines) {
-      const bad = l.words.find(w => !/^[0-9a-f]{2}$/i.test(w));
-      if (bad !== undefined) return this.stop(read, l, `expected a byte, two hexadecimal digits${instead(bad)}`);
-      l.at = read.bytes.length;
-      l.bytes = l.words.map(w => parseInt(w, 16));
-      read.bytes.push(...l.bytes);
-    }
-  }
-
-  readWords(read) {
-    const left = read.lines.filter(l => l.words.length);
-    let line;
+  /* What a reader makes of a line is put behind the bytes, unless a line before it could not be read. */
+  attempt(read, line, reader) {
     try {
-      line = left.shift();
-      const nodes = this.readNodes(line), first = line;
-      line = left.shift();
-      const owners = this.readOwners(line);
-      first.head = line.head = true;
-      const fits = [nodes, owners.length, ...owners].every(n => n < 256);
-      if (!fits) {
-        read.message = `lines ${read.lines.indexOf(first) + 1} and ${read.lines.indexOf(line) + 1}: ${NO_HEADER}`;
-        first.wrong = line.wrong = NO_HEADER;
-        return;
-      }
-      first.at = 0;
-      first.bytes = [nodes];
-      line.at = 1;
-      line.bytes = [owners.length, ...owners];
-      read.bytes.push(nodes, ...line.bytes);
-      for (line of left) {
-        const bytes = this.readStep(line);
-        line.at = read.bytes.length;
-        line.bytes = bytes;
-        read.bytes.push(...bytes);
-      }
+      const bytes = reader();
+      if (read.message) return;
+      line.at = read.bytes.length;
+      line.bytes = bytes;
+      read.bytes.push(...bytes);
     } catch (e) {
       if (!(e instanceof Wrong)) throw e;
-      this.stop(read, line, e.message);
+      const at = line ? read.lines.indexOf(line) + 1 : read.end + 1;
+      if (line) line.wrong = e.message;
+      if (read.message && !(read.late && !e.late)) return;
+      Object.assign(read, { message: `line ${at}: ${e.message}`, late: e.late });
     }
+  }
+
+  readHex(line) {
+    const bad = line.words.find(w => !isByte(w));
+    if (bad !== undefined) throw new Wrong(`expected a byte, two hexadecimal digits${instead(bad)}`);
+    return line.words.map(w => parseInt(w, 16));
+  }
+
+  readWords(read, [first, second, ...steps]) {
+    let nodes, owners;
+    this.attempt(read, first, () => { nodes = this.readNodes(first); return [nodes]; });
+    if (read.message) return;
+    this.attempt(read, second, () => { owners = this.readOwners(second); return [owners.length, ...owners]; });
+    if (read.message) return;
+    first.head = second.head = true;
+    if (![nodes, owners.length, ...owners].every(n => n < 256)) {
+      const [a, b] = [first, second].map(l => read.lines.indexOf(l) + 1);
+      for (const l of [first, second]) Object.assign(l, { wrong: NO_HEADER, bytes: [], at: -1 });
+      Object.assign(read, { message: `lines ${a} and ${b}: ${NO_HEADER}`, late: true, bytes: [] });
+    }
+    for (const line of steps) this.attempt(read, line, () => this.readStep(line));
   }
 
   readNodes(line) {
@@ -128,7 +125,7 @@ export class Words {
       return number(rest[i]);
     });
     if (rest.length > values.length) throw new Wrong(`${expects} only${instead(rest[values.length])}`);
-    if (c.operands.some(([, width], i) => values[i] >= 256 ** width)) throw new Wrong(NO_SUCH);
+    if (c.operands.some(([, width], i) => values[i] >= 256 ** width)) throw new Wrong(NO_SUCH, true);
     return [c.number, ...c.operands.flatMap(([, width], i) => spelled(values[i], width))];
   }
 
