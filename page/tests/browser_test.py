@@ -134,6 +134,33 @@ W_SAID = """1 / 17 BEGIN 0 Save 0 begins its first run. It works on copies of it
 17 / 17 APPLY 0 1 Node 0 carries out save 1, which was committed: sheet 0 now holds 9, counter 2. Its entries here go.""".split('\n')
 
 
+WIDE_SAID = """11 / 32 TAKE 0 Node 0 takes save 1 at place 1 and finds it invalid at sheet 0, counter behind: it saw counter 0, and the sheet’s is 1. It holds S on sheet 0.
+17 / 32 READ 1 1 Save 1 reads sheet 1 at node 0 and gets 0. With this its run is wide.
+18 / 32 SUBMIT 1 Save 1 joins the order at place 3 once more, for its run was wide; place 1 is a former place now. It claims S on sheet 0 and S on sheet 1; its entries go and its failed mark is cleared.
+20 / 32 TAKE 0 Node 0 takes save 1 at place 3 and finds it invalid at sheet 1, X granted: save 2’s X is at the front of the queue. It holds S on sheet 0 and waits on sheet 1 for save 2.
+22 / 32 APPLY 0 2 Node 0 carries out save 2, which was committed: sheet 1 now holds 5, counter 1. Its entries here go; save 1 now holds S on sheet 1.
+26 / 32 TAKE 1 Node 1 takes save 0 at place 0 and finds it valid. It has no entry here.
+27 / 32 TAKE 1 Node 1 comes to place 1, a former place of save 1: it only moves on.
+32 / 32 DECIDE 1 Save 1 is not marked failed: committed, from its later run 3.""".split('\n')
+
+
+def told():
+    """Wide runs, causes and what was given up, in sentences."""
+    load()
+    pick('wide-twice.txt')
+    for want in WIDE_SAID:
+        step(int(want.split()[0]))
+        check(f'said: {want}', said() == want, said())
+    for name, at, want in [('cause-waiting.txt', 13, 'finds it invalid at sheet 0, X waiting: the queue holds the X of save 1, and its front entry is an S. It waits on sheet 0 for save 1.'),
+                           ('wide-given-up.txt', 15, 'Save 1 is given up in its later run 2, wide: dropped. Its entries stay until APPLY, on sheet 0.'),
+                           ('wide-given-up.txt', 16, 'Node 0 carries out save 1, which was dropped: nothing is written. Its entries here go.'),
+                           ('empty-claim.txt', 2, 'Save 0 joins the order at place 0. It claims no sheet.'), ('given-up-in-the-first-run.txt', 2, 'Save 0 is given up in its first run: dropped.'),
+                           ('neighbours.txt', 17, 'Node 1 carries out save 0, which was committed: no content changes. Its entries here go; save 1 now holds X on sheet 1.')]:
+        pick(name)
+        step(at)
+        check(f'said: {want}', said().endswith(want), said())
+
+
 def walk():
     """W by keys, from its start to its end."""
     load()
@@ -683,7 +710,7 @@ def gone():
     check('the host is gone, and it is said', text('alarm') == 'The host does not answer. Is it still running?' and not hidden('alarm'), text('alarm'))
 
 
-GROUPS = [walk, typing, bad_texts, composing, all_examples, compare, keys, chips, stale, veil, links, files, contrast, widths, keyboard, gone]
+GROUPS = [walk, told, typing, bad_texts, composing, all_examples, compare, keys, chips, stale, veil, links, files, contrast, widths, keyboard, gone]
 if __name__ == '__main__':
     view()
     try:

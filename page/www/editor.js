@@ -27,7 +27,11 @@ function besideOther(now, line, veiled) {
 /* The same for any line; `own` are its steps, `hidden` says that they are ahead. */
 function beside(now, line, own, hidden, veiled) {
   if (line.wrong) return [line.wrong, 'wrong'];
-  if (now.header.nodes || !now.bytes.length) return !own.length ? besideOther(now, line, veiled) : hidden ? ['', ''] : [lineAnswer(own), own.at(-1).kind === REFUSED ? 'refused' : `kind${own.at(-1).kind}`];
+  if (now.header.nodes || !now.bytes.length) {
+    if (!own.length) return besideOther(now, line, veiled);
+    const { kind } = own.at(-1);
+    return hidden ? ['', ''] : [lineAnswer(own), kind === REFUSED ? 'refused' : `kind${kind}`];
+  }
   if (!line.bytes.length) return ['', ''];
   return line.at === 0 ? ['refused 1', 'refused'] : ['not reached', 'beyond'];
 }
@@ -66,7 +70,8 @@ function message(now, limit, ahead) {
   const { lines, bytes, reply } = now, [offset, number] = reply.listed;
   if (now.hex || (now.message && !now.late)) return now.message;
   if (bytes.length > limit) return `refused 1: the session is over ${figures(limit)} bytes`;
-  if (!now.header.nodes && bytes.length) return `lines ${lines.findIndex(l => l.head) + 1} and ${lines.findLastIndex(l => l.head) + 1}: refused 1: the header is out of range`;
+  const [first, second] = [lines.findIndex(l => l.head) + 1, lines.findLastIndex(l => l.head) + 1];
+  if (!now.header.nodes && bytes.length) return `lines ${first} and ${second}: refused 1: the header is out of range`;
   return number === 4 && !ahead ? `line ${lineWith(now, offset) + 1}: refused 4: ${REFUSALS[4]}` : now.message;
 }
 
@@ -85,8 +90,8 @@ export function drawNotes(now, limit, veiled, met) {
 
 export function drawBytes(now) {
   if (!$('bytes-box').open) return;
-  const { bytes, steps, at } = now, step = steps[at - 1], end = step ? step.at + step.size : 0;
-  $('bytes').replaceChildren(...(step ? [hex(bytes.slice(0, step.at)) + ' ', el('mark', '', hex(bytes.slice(step.at, end))), ' ' + hex(bytes.slice(end))] : [hex(bytes)]));
+  const { bytes, steps, at } = now, step = steps[at - 1], from = step?.at ?? 0, end = step ? step.at + step.size : 0;
+  $('bytes').replaceChildren(`${hex(bytes.slice(0, from))} `, el('mark', '', hex(bytes.slice(from, end))), ` ${hex(bytes.slice(end))}`);
 }
 
 /* ---- Changing the text */

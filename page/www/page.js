@@ -64,7 +64,8 @@ function linesOf(lines, steps) {
 /* `written` counts the steps of the text, whether or not they are reached. */
 function take(read, bytes, reply) {
   const steps = reply.steps.map(s => stepOf(bytes, s)), written = Math.max(steps.length, words.cut(bytes, reply.commands).parts.length);
-  now = { ...read, bytes, reply, steps, written, states: reply.states?.map(parse) ?? null, header: { nodes: reply.nodes, owners: reply.owners }, lineOf: linesOf(read.lines, steps), at: 0, around: null, told: false };
+  const states = reply.states?.map(parse) ?? null, header = { nodes: reply.nodes, owners: reply.owners }, lineOf = linesOf(read.lines, steps);
+  now = { ...read, bytes, reply, steps, written, states, header, lineOf, at: 0, around: null, told: false };
 }
 
 /* Asks about the text as it stands; then shows the step `keep`, or the last one. */
@@ -172,13 +173,17 @@ function drawTransport(before, state) {
 
 /* ---- The lanes and the key */
 
-const model = () => ({ steps: now.steps, states: now.states, at: now.at, shown: veiled() ? now.at : now.steps.length, total: veiled() ? now.written : now.steps.length });
+function model() {
+  const { steps, states, at, written } = now;
+  return { steps, states, at, shown: veiled() ? at : steps.length, total: veiled() ? written : steps.length };
+}
 
 function undrawn() {
   const { reply, header } = now;
   if (!header.nodes) return 'There is nothing to draw: the header is refused.';
   if (!reply.limit) return 'No step yet.';
-  const why = reply.limit.over === 'steps' ? `only sessions of at most ${figures(reply.limit.steps)} steps are drawn as lanes` : `the states of this session have over ${figures(reply.limit.bytes)} bytes`;
+  const { over, steps, bytes } = reply.limit;
+  const why = over === 'steps' ? `only sessions of at most ${figures(steps)} steps are drawn as lanes` : `the states of this session have over ${figures(bytes)} bytes`;
   return `Not drawn: ${why}. The answers, the key and the panels below are complete for every step.`;
 }
 
@@ -209,7 +214,8 @@ function drawReport(state) {
   $('here').disabled = veiled();
   drawKey($('key'), whole ? lines(reply.report) : state?.report ?? []);
   const given = example && $('words').value === example.loaded ? example.report : null;
-  $('matches').textContent = !given || !whole ? '' : given === reply.report ? `As ${example.name} has it.` : `Not as ${example.name} has it: ${lines(given).join(', ')}`;
+  const same = given === reply.report ? `As ${example?.name} has it.` : `Not as ${example?.name} has it: ${lines(given ?? '').join(', ')}`;
+  $('matches').textContent = given && whole ? same : '';
 }
 
 function saveDrawing() {

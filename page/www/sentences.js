@@ -6,11 +6,21 @@ export const PHASES = { F: 'first run', S: 'submitted', L: 'later run', C: 'comm
 export const RULES = ['', 'X granted', 'X waiting', 'counter behind'];
 export const OUTCOMES = { C: 'committed', D: 'dropped', U: 'neither yet' };
 export const REFUSALS = {
-  1: 'the header is short or out of range, or the session has over 16,384 bytes', 2: 'unknown command byte', 3: 'operands cut short', 4: 'no such save, node or sheet',
-  5: 'the save has begun and is not over, and its phase does not allow the command', 6: 'a first-run READ meets an X at the front of the sheet’s queue',
-  7: 'WRITE without a copy from this run', 8: 'never occurs any more: a later run may open another sheet', 9: 'TAKE: the node has taken every submitted save',
-  10: 'DECIDE: a concerned node has not taken the save, or an entry of it waits', 11: 'APPLY: the save has no entry at the node', 12: 'the report buffer has under 4,096 bytes',
-  13: 'the save never began', 14: 'the save is over, committed or dropped', 15: 'the room lent is too short',
+  1: 'the header is short or out of range, or the session has over 16,384 bytes',
+  2: 'unknown command byte',
+  3: 'operands cut short',
+  4: 'no such save, node or sheet',
+  5: 'the save has begun and is not over, and its phase does not allow the command',
+  6: 'a first-run READ meets an X at the front of the sheet’s queue',
+  7: 'WRITE without a copy from this run',
+  8: 'never occurs any more: a later run may open another sheet',
+  9: 'TAKE: the node has taken every submitted save',
+  10: 'DECIDE: a concerned node has not taken the save, or an entry of it waits',
+  11: 'APPLY: the save has no entry at the node',
+  12: 'the report buffer has under 4,096 bytes',
+  13: 'the save never began',
+  14: 'the save is over, committed or dropped',
+  15: 'the room lent is too short',
 };
 
 /* A TAKE's answer: its save; where it is invalid also the sheet and the rule of the cause. */
@@ -51,15 +61,20 @@ export const cause = (value, number) => `sheet ${causeSheet(value)}, ${RULES[num
 /* ---- Why a step was refused, by the state that it met */
 
 /* Where a save stands in the order, and how far the nodes are. */
-const standing = (s, t) => `save ${t} stands at place ${s.saves.get(t).place}, and ${and(s.taken.map((taken, n) => `node ${n} has taken ${plural(taken, 'place')}`))}`;
+function standing(s, t) {
+  const nodes = s.taken.map((taken, n) => `node ${n} has taken ${plural(taken, 'place')}`);
+  return `save ${t} stands at place ${s.saves.get(t).place}, and ${and(nodes)}`;
+}
 
-const waits = (s, t) => entriesOf(s, t).filter(e => !e.granted).map(e => `save ${t} waits for ${saves(e.waitsFor)} on sheet ${e.sheet}`);
+const waiting = e => `save ${e.save} waits for ${saves(e.waitsFor)} on sheet ${e.sheet}`;
+const waits = (s, t) => entriesOf(s, t).filter(e => !e.granted).map(waiting);
+const ranged = header => `this session has nodes 0 to ${header.nodes - 1} and sheets 0 to ${header.owners.length - 1}, and saves go from 0 to 31`;
 
 export function reason(f, number, s, header) {
   const t = f.save, save = s?.saves.get(t), name = save && phaseName(save);
   if (!s) return '';
   switch (number) {
-    case 4: return `this session has nodes 0 to ${header.nodes - 1} and sheets 0 to ${header.owners.length - 1}, and saves go from 0 to 31`;
+    case 4: return ranged(header);
     case 5: return save?.phase === 'F' || save?.phase === 'L' ? `save ${t} is in its ${name}` : `save ${t} is ${name}`;
     case 6: return `save ${queue(s, f.sheet)[0]?.save}’s X is at the front of sheet ${f.sheet}’s queue`;
     case 7: return `save ${t} has no copy of sheet ${f.sheet} from this run`;
@@ -77,56 +92,71 @@ export function reason(f, number, s, header) {
 const entryWords = e => e.granted ? `holds ${e.mode} on sheet ${e.sheet}` : `waits on sheet ${e.sheet} for ${saves(e.waitsFor)}`;
 const becameWide = (before, after, t) => !before.saves.get(t)?.wide && after.saves.get(t)?.wide ? ' With this its run is wide.' : '';
 
-function said({ value, f }, before, after, header) {
-  const c = copyOf(before, f.save, f.sheet), own = c && c.copy;
-  return `Save ${f.save} reads sheet ${f.sheet}${own ? ' in its own copy' : ` at node ${header.owners[f.sheet]}`} and gets ${value}.${becameWide(before, after, f.save)}`;
+/* Entries that waited before the step and are granted after it. */
+function gains(before, after) {
+  const waited = (e, k) => queue(before, k).some(b => b.save === e.save && !b.granted);
+  return after.queues.flatMap((q, k) => q.filter(e => e.granted && waited(e, k)).map(e => `save ${e.save} now holds ${e.mode} on sheet ${k}`));
+}
+
+function read({ value, f }, before, after, header) {
+  const own = copyOf(before, f.save, f.sheet)?.copy, where = own ? ' in its own copy' : ` at node ${header.owners[f.sheet]}`;
+  return `Save ${f.save} reads sheet ${f.sheet}${where} and gets ${value}.${becameWide(before, after, f.save)}`;
 }
 
 function submitted({ f }, before, after) {
-  const t = f.save, was = before.saves.get(t), is = after.saves.get(t), claims = after.copies.filter(c => c.save === t && c.claim).map(c => `${c.claim} on sheet ${c.sheet}`);
+  const t = f.save, was = before.saves.get(t), is = after.saves.get(t);
+  const claims = after.copies.filter(c => c.save === t && c.claim).map(c => `${c.claim} on sheet ${c.sheet}`);
   if (is.phase === 'C') return `Save ${t} ends its ${phaseName(was)} and is committed.`;
   const again = was.wide ? ` once more, for its run was wide; place ${was.place} is a former place now` : '';
-  return `Save ${t} joins the order at place ${is.place}${again}. It claims ${and(claims) || 'no sheet'}.`;
+  const goes = [entriesOf(before, t).length && !entriesOf(after, t).length ? 'its entries go' : '', was.failed && !is.failed ? 'its failed mark is cleared' : ''];
+  const rest = and([...goes.filter(Boolean), ...gains(before, after)]);
+  return `Save ${t} joins the order at place ${is.place}${again}. It claims ${and(claims) || 'no sheet'}${rest ? `; ${rest}` : ''}.`;
 }
 
-function why({ value, number }, before) {
-  const t = takenSave(value), k = causeSheet(value), xs = queue(before, k).filter(e => e.mode === 'X').map(e => e.save), c = copyOf(before, t, k);
-  if (number === 3) return `it saw counter ${c?.counter}, and the sheet’s is ${before.sheets[k].counter}`;
-  return number === 1 ? `save ${queue(before, k)[0]?.save}’s X is at the front of the queue` : `the queue holds the X of ${saves(xs)}, and its front entry is an S`;
+/* What a TAKE met where it found the save invalid. */
+function met({ value, number }, before) {
+  const t = takenSave(value), k = causeSheet(value), entries = queue(before, k);
+  if (number === 1) return `save ${entries[0]?.save}’s X is at the front of the queue`;
+  if (number === 2) return `the queue holds the X of ${saves(entries.filter(e => e.mode === 'X').map(e => e.save))}, and its front entry is an S`;
+  return `it saw counter ${copyOf(before, t, k)?.counter}, and the sheet’s is ${before.sheets[k].counter}`;
 }
 
 function took(step, before, after, header) {
   const { kind, value, number, f } = step, t = takenSave(value), place = before.taken[f.node];
   if (!before.places[place].last) return `Node ${f.node} comes to place ${place}, a former place of save ${t}: it only moves on.`;
   const here = entriesOf(after, t).filter(e => header.owners[e.sheet] === f.node).map(entryWords);
-  const found = kind === VALID ? 'valid' : `invalid at sheet ${causeSheet(value)}, ${RULES[number]}: ${why(step, before)}`;
-  return `Node ${f.node} takes save ${t} at place ${place} and finds it ${found}. It ${here.length ? and(here) : 'claims no sheet here'}.`;
+  const found = kind === VALID ? 'valid' : `invalid at sheet ${causeSheet(value)}, ${RULES[number]}: ${met(step, before)}`;
+  return `Node ${f.node} takes save ${t} at place ${place} and finds it ${found}. It ${here.length ? and(here) : 'has no entry here'}.`;
 }
 
 function decided({ kind, f }, before, after) {
   const { runs } = after.saves.get(f.save);
-  if (kind === COMMITTED) return `Save ${f.save} is not marked failed: committed, from its ${runs === 1 ? 'first run' : `run ${runs}`}.`;
+  if (kind === COMMITTED) return `Save ${f.save} is not marked failed: committed, from its ${runs === 1 ? 'first run' : `later run ${runs}`}.`;
   return `Save ${f.save} is marked failed, and no entry of it waits: it runs again under its locks, in its later run ${runs}.`;
 }
 
 function applied({ f }, before, after) {
-  const t = f.save, changed = after.sheets.flatMap((o, k) => o.content !== before.sheets[k].content ? [`sheet ${k} now holds ${o.content}, counter ${o.counter}`] : []);
-  const gains = [];
-  for (const [u] of after.saves) for (const e of entriesOf(after, u)) if (e.granted && queue(before, e.sheet).some(b => b.save === u && !b.granted)) gains.push(`save ${u} now holds ${e.mode} on sheet ${e.sheet}`);
-  const what = changed.length ? and(changed) : before.saves.get(t).phase === 'D' ? 'nothing is written' : 'no content changes';
-  return `Node ${f.node} carries out save ${t}, which was ${PHASES[before.saves.get(t).phase]}: ${what}. Its entries here go${gains.length ? '; ' + and(gains) : ''}.`;
+  const { phase } = before.saves.get(f.save), gained = gains(before, after);
+  const changed = after.sheets.flatMap((o, k) => o.content !== before.sheets[k].content ? [`sheet ${k} now holds ${o.content}, counter ${o.counter}`] : []);
+  const what = changed.length ? and(changed) : phase === 'D' ? 'nothing is written' : 'no content changes';
+  const rest = `Its entries here go${gained.length ? '; ' + and(gained) : ''}.`;
+  return `Node ${f.node} carries out save ${f.save}, which was ${PHASES[phase]}: ${what}. ${rest}`;
 }
 
 function dropped({ f }, before, after) {
-  const left = entriesOf(after, f.save).map(e => `sheet ${e.sheet}`);
-  return `Save ${f.save} is given up in its ${phaseName(before.saves.get(f.save))}: dropped.${left.length ? ` Its entries stay until APPLY, on ${and(left)}.` : ''}`;
+  const left = entriesOf(after, f.save).map(e => `sheet ${e.sheet}`), stay = left.length ? ` Its entries stay until APPLY, on ${and(left)}.` : '';
+  return `Save ${f.save} is given up in its ${phaseName(before.saves.get(f.save))}: dropped.${stay}`;
 }
 
 const tellers = {
   BEGIN: ({ f }) => `Save ${f.save} begins its first run. It works on copies of its own.`,
-  READ: said,
+  READ: read,
   WRITE: ({ f }, before, after) => `Save ${f.save} writes ${f.content} into its own copy of sheet ${f.sheet}.${becameWide(before, after, f.save)}`,
-  SUBMIT: submitted, TAKE: took, DECIDE: decided, APPLY: applied, 'GIVE UP': dropped,
+  SUBMIT: submitted,
+  TAKE: took,
+  DECIDE: decided,
+  APPLY: applied,
+  'GIVE UP': dropped,
 };
 
 /* `before` and `after` are the states around the step; without them the answer alone is told. */

@@ -6,13 +6,16 @@ const readers = {
   P: (s, [save, runs, outcome]) => s.rows.push({ save: +save, runs: +runs, outcome }),
   O: (s, [sheet, content, counter]) => { s.sheets[sheet] = { content: +content, counter: +counter }; },
   T: (s, [accepted, first, later]) => { s.tally = { accepted: +accepted, first: +first, later: +later }; },
-  S: (s, [save, phase, runs, failed, wide, place]) => s.saves.set(+save, { phase, runs: +runs, failed: failed === 'F', wide: wide === 'W', place: figure(place) }),
+  S: (s, [save, phase, runs, failed, wide, place]) =>
+    s.saves.set(+save, { phase, runs: +runs, failed: failed === 'F', wide: wide === 'W', place: figure(place) }),
   L: (s, [place, save, which]) => { s.places[place] = { save: +save, last: which === 'L' }; },
   N: (s, [node, taken]) => { s.taken[node] = +taken; },
   C: (s, [save, sheet, claim, copy, content, counter, behind]) => s.copies.push({
-    save: +save, sheet: +sheet, claim: claim === '-' ? '' : claim, copy: copy === '-' ? '' : copy, content: figure(content), counter: figure(counter), behind: behind === 'B',
+    save: +save, sheet: +sheet, claim: claim === '-' ? '' : claim, copy: copy === '-' ? '' : copy,
+    content: figure(content), counter: figure(counter), behind: behind === 'B',
   }),
-  Q: (s, [sheet, save, mode, granted, ...waitsFor]) => (s.queues[sheet] ??= []).push({ save: +save, mode, granted: granted === 'G', waitsFor: waitsFor.map(Number) }),
+  Q: (s, [sheet, save, mode, granted, ...waitsFor]) =>
+    (s.queues[sheet] ??= []).push({ save: +save, mode, granted: granted === 'G', waitsFor: waitsFor.map(Number) }),
 };
 
 /* `report` has the lines that are the report's. */

@@ -152,7 +152,7 @@ export class Words {
   /* The commands of the bytes behind the header, as far as they are whole; then the rest. */
   cut(bytes, at) {
     const parts = [];
-    for (let c; at < bytes.length && (c = this.command(bytes[at])) && at + this.size(c) <= bytes.length; at += this.size(c)) parts.push(bytes.slice(at, at + this.size(c)));
+    for (let c; (c = this.command(bytes[at])) && at + this.size(c) <= bytes.length; at += this.size(c)) parts.push(bytes.slice(at, at + this.size(c)));
     return { parts, rest: bytes.slice(at) };
   }
 
