@@ -253,11 +253,15 @@ def crowd():
 
 def starting():
     """Another address, and what it does not start with."""
-    other = subprocess.Popen([sys.argv[1], '0', '--listen', '127.0.0.2'], stdout=subprocess.PIPE, text=True)
-    port = int(other.stdout.readline().strip().rstrip('/').rsplit(':', 1)[1])
+    with socket.socket() as free:  # a port that nobody has at 127.0.0.1: the same number may be taken there and free at 127.0.0.2
+        free.bind(('127.0.0.1', 0))
+        port = free.getsockname()[1]
+    other = subprocess.Popen([sys.argv[1], str(port), '--listen', '127.0.0.2'], stdout=subprocess.PIPE, text=True)
+    check('it says where', other.stdout.readline().strip() == f'http://127.0.0.2:{port}/')
     ask_other = lambda name: subprocess.run(['curl', '-s', '-o', '/dev/null', '-w', '%{http_code}', '-H', f'Host: {name}', f'http://127.0.0.2:{port}/'], capture_output=True, text=True).stdout
     check('--listen', ask_other(f'127.0.0.2:{port}') == '200' and ask_other('evil.example') == '403' and ask_other(f'127.0.0.3:{port}') == '403')
-    check('and nowhere else', subprocess.run(['curl', '-s', '-m', '2', f'http://127.0.0.1:{port}/'], capture_output=True).returncode == 7)
+    elsewhere = subprocess.run(['curl', '-s', '-m', '2', f'http://127.0.0.1:{port}/'], capture_output=True)
+    check('and nowhere else', elsewhere.returncode == 7, elsewhere)
     other.terminate()
     check('it ends when told to', other.wait(10) == 0)
     for args, code in [(['--listen', '0.0.0.0'], 2), (['x'], 2), (['70000'], 2), (['-1'], 2), (['--listen'], 2), ([str(host.port)], 1), (['0', '--listen', 'localhost'], 1), (['0', '--listen', '203.0.113.7'], 1)]:
