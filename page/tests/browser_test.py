@@ -713,17 +713,9 @@ def gone():
 GROUPS = [walk, told, typing, bad_texts, composing, all_examples, compare, keys, chips, stale, veil, links, files, contrast, widths, keyboard, gone]
 if __name__ == '__main__':
     view()
-    try:
-        for group in GROUPS:
-            if len(sys.argv) < 3 or group.__name__ in sys.argv[2:]:
-                began = time.time()
-                group()
-                if not os.environ.get('PAGE_FIRST'):
-                    print(f'{group.__doc__} {time.time() - began:.0f} s', flush=True)
-    except Exception as e:  # a page that breaks the test is seen too
-        check('no exception', False, repr(e))
-    finally:
-        d.quit()
-        ask.stop()
-        host.process.terminate()
+    check.run(GROUPS, sys.argv[2:])
+    d.quit()
+    ask.stop()
+    host.process.terminate()
+    host.process.wait()
     check.end()

@@ -1,10 +1,14 @@
 """What the tests share: the host, the library's own words, sessions, and the count."""
-import http.client, json, os, random, struct, subprocess, sys
+import http.client, json, os, random, struct, subprocess, sys, time
 
 ROOT = os.path.abspath(os.path.join(os.path.dirname(__file__), '..', '..'))
 OUT = os.environ.get('PAGE_OUT', os.path.join(ROOT, 'target/page'))
 WIDTH = {1: 2, 2: 3, 3: 7, 4: 2, 5: 2, 6: 2, 7: 3, 8: 2}
 TYPE = 'application/octet-stream'
+
+
+class Enough(BaseException):
+    """Of a wrong page or host the first failure is enough."""
 
 
 class Count:
@@ -16,8 +20,22 @@ class Count:
         else:
             self.failed += 1
             print(f'FAILED: {what}: {str(more)[:600]}', flush=True)
-            if os.environ.get('PAGE_FIRST'):  # of a wrong page or host the first failure is enough
-                self.end()
+            if os.environ.get('PAGE_FIRST'):
+                raise Enough
+
+    def run(self, groups, names):
+        """These groups of tests, or all; what breaks a test is seen too."""
+        try:
+            try:
+                for group in groups:
+                    if not names or group.__name__ in names:
+                        began = time.time()
+                        group()
+                        print(f'{group.__doc__} {time.time() - began:.0f} s', flush=True)
+            except Exception as e:
+                self('no exception', False, repr(e))
+        except Enough:
+            pass
 
     def end(self):
         print(f'{self.passed} passed, {self.failed} failed', flush=True)

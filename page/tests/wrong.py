@@ -1,5 +1,5 @@
 """Wrong pages and wrong hosts: each edit is made in a copy, and the tests must fail. Usage: wrong.py [NAME...]"""
-import os, shutil, subprocess, sys, tempfile
+import os, shutil, signal, subprocess, sys, tempfile
 from common import ROOT, OUT
 
 HTTP, BROWSER = 'http_test.py', 'browser_test.py'
@@ -72,9 +72,15 @@ def tried(name, file, old, new, test, groups):
         built = subprocess.run([os.path.join(ROOT, 'page/build')], env=env, capture_output=True, text=True)
         if built.returncode:
             return 'it does not build: ' + built.stderr[-300:], False
-        run = subprocess.run([sys.executable, os.path.join(ROOT, 'page/tests', test), work + '/out/host', *groups.split()], env=dict(os.environ, PAGE_FIRST='1'), capture_output=True, text=True, timeout=240)
-        lines = [l for l in run.stdout.split('\n') if l.startswith('FAILED')]
-        return (lines or [run.stdout[-200:] + run.stderr[-200:]])[0], run.returncode != 0 and bool(lines)
+        run = subprocess.Popen([sys.executable, os.path.join(ROOT, 'page/tests', test), work + '/out/host', *groups.split()], env=dict(os.environ, PAGE_FIRST='1'), stdout=subprocess.PIPE,
+                               stderr=subprocess.STDOUT, text=True, start_new_session=True)
+        try:
+            said = run.communicate(timeout=240)[0]
+        except subprocess.TimeoutExpired:
+            os.killpg(run.pid, signal.SIGKILL)  # and what it has started
+            said = run.communicate()[0]
+        lines = [l for l in said.split('\n') if l.startswith('FAILED')]
+        return (lines or [said[-400:]])[0], run.returncode != 0 and bool(lines)
     finally:
         shutil.rmtree(work)
 
