@@ -20,6 +20,10 @@ W = W-43 ++ "02 01 00  03 01 00 00 00 00 09  04 01  07 00 01"
 abbrev three : String
 three = "01 01 00  01 00  01 01  01 02  02 00 00  02 01 00  02 02 00  03 01 00 00 00 00 05  04 00  04 01  04 02  05 00  05 00  05 00"
 
+-- saves 0 and 1 read the sheet, 2 reads and writes it, 3 reads it; all submitted and taken
+abbrev two-before : String
+two-before = "01 01 00  01 00  01 01  01 02  01 03  02 00 00  02 01 00  02 02 00  02 03 00  03 02 00 00 00 00 05  04 00  04 01  04 02  04 03  05 00  05 00  05 00  05 00"
+
 -- ---- States
 
 pub record StateCase : Type 0 where
@@ -43,6 +47,10 @@ states =
     ∷ state (W-43 ++ "02 01 01  04 01") "P 0 1 C\nP 1 2 U\nO 0 7 1\nO 1 0 0\nT 15 1 0\nS 0 C 1 - - 0\nS 1 S 2 - - 2\nL 0 0 L\nL 1 1 F\nL 2 1 L\nN 0 2\nN 1 0\nC 0 0 X W 7 0 B\nC 1 0 X -\nC 1 1 S R 0 0 -\n"
     -- S held, X waiting for it, S waiting for the X
     ∷ state three "P 0 1 U\nP 1 1 U\nP 2 1 U\nO 0 0 0\nT 13 0 0\nS 0 S 1 - - 0\nS 1 S 1 - - 1\nS 2 S 1 F - 2\nL 0 0 L\nL 1 1 L\nL 2 2 L\nN 0 3\nC 0 0 S R 0 0 -\nC 1 0 X W 5 0 -\nC 2 0 S R 0 0 -\nQ 0 0 S G\nQ 0 1 X W 0\nQ 0 2 S W 1\n"
+    -- an X waits for every S before it, an S for the X alone
+    ∷ state two-before "P 0 1 U\nP 1 1 U\nP 2 1 U\nP 3 1 U\nO 0 0 0\nT 17 0 0\nS 0 S 1 - - 0\nS 1 S 1 - - 1\nS 2 S 1 - - 2\nS 3 S 1 F - 3\nL 0 0 L\nL 1 1 L\nL 2 2 L\nL 3 3 L\nN 0 4\nC 0 0 S R 0 0 -\nC 1 0 S R 0 0 -\nC 2 0 X W 5 0 -\nC 3 0 S R 0 0 -\nQ 0 0 S G\nQ 0 1 S G\nQ 0 2 X W 0 1\nQ 0 3 S W 2\n"
+    -- a first run has copies and no claim, and is never wide
+    ∷ state "01 01 00  01 00  02 00 00" "O 0 0 0\nT 2 0 0\nS 0 F 1 - - -\nN 0 0\nC 0 0 - R 0 0 -\n"
     -- given up in the first run: no place
     ∷ state "01 01 00  01 03  02 03 00  08 03" "O 0 0 0\nT 3 0 0\nS 3 D 1 - - -\nN 0 0\nC 3 0 - R 0 0 -\n"
     ∷ []
