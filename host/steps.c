@@ -3,34 +3,6 @@
 #include "words.h"
 #include <inttypes.h>
 
-static const struct command *command_of(const uint32_t *step)
-{
-    for (size_t i = 0; i < COMMANDS; i++)
-        if (commands[i].number == step[0])
-            return &commands[i];
-    fail("internal error: command %" PRIu32 " has no word", step[0]);
-}
-
-static void print_step(const uint32_t *step)
-{
-    const struct command *c = command_of(step);
-    fputs(c->name, stdout);
-    for (size_t i = 0; i < operand_count(c); i++)
-        printf(" %" PRIu32, step[1 + i]);
-    putchar('\n');
-}
-
-static void print_header(const uint8_t *session, size_t bytes, unsigned nodes)
-{
-    uint64_t part = cusphewa_owners(session, bytes);
-    const uint8_t *owners = session + (part >> 32);
-    size_t sheets = part & 0xffffffff;
-    printf(NODES " %u\n" OWNERS, nodes);
-    for (size_t i = 0; i < sheets; i++)
-        printf(" %u", owners[i]);
-    putchar('\n');
-}
-
 int main(int argc, char **argv)
 {
     static uint8_t session[16385]; /* one byte more than a session may have: refusal 1 */
@@ -44,9 +16,11 @@ int main(int argc, char **argv)
     const uint32_t *end = steps + CUSPHEWA_STEP_WORDS * (CUSPHEWA_VALUE(answer) & 0xffff);
     for (const uint32_t *step = steps; step < end; step += CUSPHEWA_STEP_WORDS)
         command_of(step); /* fails before anything is printed */
-    print_header(session, bytes, (unsigned)(CUSPHEWA_VALUE(answer) >> 32));
-    for (const uint32_t *step = steps; step < end; step += CUSPHEWA_STEP_WORDS)
+    print_header(session, bytes);
+    for (const uint32_t *step = steps; step < end; step += CUSPHEWA_STEP_WORDS) {
         print_step(step);
+        putchar('\n');
+    }
     close_output();
     return 0;
 }

@@ -1,6 +1,7 @@
-/* What `compose` and `steps` share. */
+/* What the programs over words share. */
 #include "words.h"
 #include <errno.h>
+#include <inttypes.h>
 #include <stdarg.h>
 #include <stdlib.h>
 #include <string.h>
@@ -11,6 +12,33 @@ size_t operand_count(const struct command *command)
     while (n < CUSPHEWA_STEP_WORDS - 1 && command->operands[n])
         n++;
     return n;
+}
+
+const struct command *command_of(const uint32_t *step)
+{
+    for (size_t i = 0; i < COMMANDS; i++)
+        if (commands[i].number == step[0])
+            return &commands[i];
+    fail("internal error: command %" PRIu32 " has no word", step[0]);
+}
+
+void print_step(const uint32_t *step)
+{
+    const struct command *c = command_of(step);
+    fputs(c->name, stdout);
+    for (size_t i = 0; i < operand_count(c); i++)
+        printf(" %" PRIu32, step[1 + i]);
+}
+
+void print_header(const uint8_t *session, size_t bytes)
+{
+    uint64_t part = cusphewa_owners(session, bytes);
+    const uint8_t *owners = session + (part >> 32);
+    size_t sheets = part & 0xffffffff;
+    printf(NODES " %u\n" OWNERS, session[0]);
+    for (size_t i = 0; i < sheets; i++)
+        printf(" %u", owners[i]);
+    putchar('\n');
 }
 
 const char *reason(unsigned refusal)

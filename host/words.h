@@ -1,4 +1,4 @@
-/* A session in words, as `compose` takes it and `steps` prints it, and what the two programs share. */
+/* A session in words, as `compose` takes it and `steps` prints it, and what these programs share with `trace` and `state`. */
 #ifndef WORDS_H
 #define WORDS_H
 
@@ -30,6 +30,13 @@ static const struct command commands[] = {
 #define OWNERS "owners"
 
 size_t operand_count(const struct command *command);
+
+/* A step's line in the table; without one the program fails. */
+const struct command *command_of(const uint32_t *step);
+
+/* A step in words, without an end of line; the header's two lines. */
+void print_step(const uint32_t *step);
+void print_header(const uint8_t *session, size_t bytes);
 
 /* Why reading or writing is refused. */
 const char *reason(unsigned refusal);
