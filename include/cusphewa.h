@@ -1,4 +1,4 @@
-/* The commit engine's calls. Link with libcusphewa.a (rt staticlib cusphewa). */
+/* The commit engine's calls. Link with libcusphewa.a (host/library makes it). */
 #ifndef CUSPHEWA_H
 #define CUSPHEWA_H
 

@@ -1,8 +1,12 @@
 -- What the call's answers mean in the rules.
 use Prim.Native.Nat.{ℕ, _≤_}
-use mathlib.Core.List.{List}
+use mathlib.Core.Bool.{Bool, true, false}
+use mathlib.Core.List.{List, map}
 use lib.ListN.{length}
+use Rattle.rules.specs.Bytes.{opens}
 use Rattle.rules.specs.Writing as lists
+use Rattle.rules.specs.Answers.{session-replies}
+use Rattle.codes.specs.Codes.{answer-code}
 use Rattle.answers.specs.declared.Told.{Told}
 use Rattle.answers.specs.declared.Told.the-variants.{Answers, TooShort}
 
@@ -21,3 +25,13 @@ answers-into codes room = lists.put (length codes) (lists.wrote (length codes)) 
 abbrev pub Small : Told → Type 0
 Small (Answers n) = n ≤ most-answers
 Small (TooShort n) = n ≤ most-answers
+
+-- ---- The call
+
+-- the answers' numbers at the front of the room: 1, then 15, which says how many there are; nothing is written
+abbrev pub answers-if : (opens : Bool) → (session room : List ℕ) → lists.Call
+answers-if true b room = lists.put (length (session-replies b)) (lists.wrote (length (session-replies b))) (map answer-code (session-replies b)) room
+answers-if false b room = record { outcome = lists.refuse-with (lists.at 0 1); room = room }
+
+unfoldable pub answers-call : (session room : List ℕ) → lists.Call
+answers-call b room = answers-if (opens b) b room

@@ -3,19 +3,20 @@ ghost use mathlib.Core.Path.{_≡_};
 ghost use mathlib.Core.List.{[], _∷_, _++_, map};
 ghost use Prim.Native.Nat.{_≤_, _<_};
 ghost use lib.ListN.{length, take, drop};
-ghost use Rattle.rules.specs.Answers.{session-replies};
+ghost use Rattle.rules.specs.Answers.{EachPrefix, session-replies};
 ghost use Rattle.text.specs.Wrote.{Wrote};
 ghost use Rattle.wire.specs.Meaning.{opened};
 ghost use Rattle.wire.specs.declared.Opened.the-variants.{Header};
 ghost use Rattle.state.specs.Slices.{slices};
 ghost use Rattle.session.specs.Meaning.{reply-of};
 ghost use Rattle.session.specs.Looping.{Begins};
-ghost use Rattle.codes.specs.Codes.{answer-code, NearReply};
-ghost use Rattle.answers.specs.Meaning.{most-answers, outcome-of, answers-into, Small};
+ghost use Rattle.codes.specs.Codes.{answer-code, NearReply, told-call};
+ghost use Rattle.answers.specs.Meaning.{most-answers, outcome-of, answers-into, answers-call, Small};
 use session::Reply;
 use state::Session;
 use tally::Tally;
 use wire::Next;
+use wire::Opened;
 
 // How many answers were written, or how many the room must hold, where the one that was lent is too short.
 pub enum Told {
@@ -115,4 +116,29 @@ pub fn tell_all(session: &[u8], room: &mut [u64], nodes: u8, sheets: u16) -> Tol
     }
     copy(room, &list, n);
     Told::Answers(n)
+}
+
+// The answers of a session with this header, as a number for the host.
+fn answers_code(session: &[u8], list: &mut [u64], nodes: u8, sheets: u16) -> u64
+    requires { ⌜ Header nodes sheets ≡ opened (now session) ⌝ }
+    ensures { λ r. ⌜ record { code = r; room = now (list .exit) } ≡ told-call (answers-call (now (session .entry)) (now (list .entry))) ⌝ }
+{
+    let told = tell_all(session, list, nodes, sheets);
+    match told {
+        Told::Answers(n) => codes::code(8, n as u64, 0),
+        Told::TooShort(n) => codes::code(7, n as u64, 15),
+    }
+}
+
+// Lists every command's answer, as cusphewa_answer's numbers, up to the first refusal: how many there are, or a refusal, which writes nothing.
+#[no_mangle]
+pub extern "C" fn cusphewa_answers(session: &[u8], list: &mut [u64]) -> u64
+    ensures { λ r. ⌜ record { code = r; room = now (list .exit) } ≡ told-call (answers-call (now (session .entry)) (now (list .entry))) ⌝ }
+    ensures prefixes { λ _. ⌜ EachPrefix (now (session .entry)) ⌝ }
+{
+    let header = wire::read_header(session);
+    match header {
+        Opened::Bad => codes::code(7, 0, 1),
+        Opened::Header(nodes, sheets) => answers_code(session, list, nodes, sheets),
+    }
 }

@@ -1,7 +1,9 @@
 -- Answers as numbers, for the host.
-use Prim.Native.Nat.{ℕ, _+_, _*_, _≤_}
+use Prim.Native.Nat.{ℕ, _+_, _*_, _≤_, min}
+use mathlib.Core.List.{List}
 use Rattle.rules.specs.Steps.{Rule, x-granted, x-waiting, counter-behind, Verdict, valid, invalid, accepted, content-is, took, commits, second-run}
 use Rattle.rules.specs.Calls as calls
+use Rattle.rules.specs.Writing as lists
 use Rattle.rules.specs.Calls.{no-command, answers, refusal}
 use Rattle.session.specs.declared.Reply.{Reply}
 use Rattle.session.specs.declared.Reply.the-variants as reply
@@ -38,3 +40,22 @@ NearReply (reply.Took t v) = Unit {0}
 NearReply reply.Commits = Unit {0}
 NearReply reply.SecondRun = Unit {0}
 NearReply (reply.Refused p c) = p ≤ 16384
+
+-- ---- Calls that write into a room
+
+-- a place above this is told as this
+abbrev pub last-place : ℕ
+last-place = 4294967295
+
+abbrev pub outcome-code : lists.Outcome → ℕ
+outcome-code (lists.wrote size) = coded 8 size 0
+outcome-code (lists.listed n m q) = coded 9 (n * 4294967296 + m * 65536 + q) 0
+outcome-code (lists.refuse-with r) = coded 7 (min (r .place) last-place) (r .number)
+
+pub record Told : Type 0 where
+  pub code : ℕ
+  pub room : List ℕ
+
+-- a call as the host sees it
+abbrev pub told-call : lists.Call → Told
+told-call c = record { code = outcome-code (c .outcome); room = c .room }

@@ -12,7 +12,8 @@ use Rattle.writing.specs.Meaning as writing
 use Rattle.listing.specs.declared.Listed.{Listed}
 use Rattle.listing.specs.declared.Listed.the-variants.{Steps}
 use Rattle.listing.specs.Meaning as listing
-use Rattle.cusphewa.specs.Codes.{part-code, outcome-code, told-call}
+use Rattle.codes.specs.Codes.{outcome-code, told-call}
+use Rattle.cusphewa.specs.Codes.{part-code}
 
 -- ---- The answer's number, by the case that the match told
 

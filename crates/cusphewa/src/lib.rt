@@ -1,12 +1,10 @@
-// The calls on a session: its report, its answer, the part that is shown; writing a session and reading it back; its state as text, and every
-// command's answer.
-use answers::Told;
+// The calls on a session: its report, its answer, the part that is shown; writing a session and reading it back. `states` and `answers` have one call each
+// more.
 use listing::Listed;
 use session::Ended;
 use session::MIN_BUFFER;
 use session::Reply;
 use session::Stop;
-use states::Shown;
 use wire::Opened;
 use writing::Written;
 ghost use mathlib.Core.Path.{_≡_};
@@ -20,15 +18,12 @@ ghost use Rattle.rules.specs.Causes.{WhyFailed};
 ghost use Rattle.rules.specs.Calls as calls;
 ghost use Rattle.rules.specs.Report as rules;
 ghost use Rattle.rules.specs.Writing as lists;
-ghost use Rattle.rules.specs.Answers.{EachPrefix};
-ghost use Rattle.rules.specs.Showing.{GrantedAlone, state-call};
-ghost use Rattle.states.specs.Meaning.{ShortText};
 ghost use Rattle.wire.specs.Meaning.{opened};
 ghost use Rattle.wire.specs.declared.Opened.the-variants.{Header};
 ghost use Rattle.session.specs.Meaning.{stop-of, reply-of};
 ghost use Rattle.session.specs.Carried.{Within, Answered};
-ghost use Rattle.codes.specs.Codes.{answer-code, NearReply};
-ghost use Rattle.cusphewa.specs.Codes.{part-code, told-call, answers-call, last-place, Near};
+ghost use Rattle.codes.specs.Codes.{answer-code, NearReply, told-call, last-place};
+ghost use Rattle.cusphewa.specs.Codes.{part-code, Near};
 ghost use Rattle.writing.specs.Meaning.{heading-of};
 
 // ---- The report
@@ -209,59 +204,5 @@ pub extern "C" fn cusphewa_owners(session: &[u8]) -> u64
     match header {
         Opened::Bad => 0,
         Opened::Header(_, sheets) => 2 * 4294967296 + sheets as u64,
-    }
-}
-
-// ---- The state, and every answer
-
-// The state that a session with this header leads to, as a number for the host.
-fn state_code(session: &[u8], room: &mut [u8], nodes: u8, sheets: u16) -> u64
-    requires { ⌜ Header nodes sheets ≡ opened (now session) ⌝ }
-    ensures { λ r. ⌜ record { code = r; room = now (room .exit) } ≡ told-call (state-call (now (session .entry)) (now (room .entry))) ⌝ }
-    ensures short { λ _. ⌜ ShortText (now (session .entry)) ⌝ }
-{
-    let shown = states::show(session, room, nodes, sheets);
-    match shown {
-        Shown::Text(n) => codes::code(8, n as u64, 0),
-        Shown::TooShort(n) => codes::code(7, n as u64, 15),
-    }
-}
-
-// Writes the state after the session's accepted commands, as text: how many bytes it has, or a refusal, which writes nothing.
-#[no_mangle]
-pub extern "C" fn cusphewa_state(session: &[u8], room: &mut [u8]) -> u64
-    ensures { λ r. ⌜ record { code = r; room = now (room .exit) } ≡ told-call (state-call (now (session .entry)) (now (room .entry))) ⌝ }
-    ensures short { λ _. ⌜ ShortText (now (session .entry)) ⌝ }
-    ensures granted { λ _. ⌜ GrantedAlone ⌝ }
-{
-    let header = wire::read_header(session);
-    match header {
-        Opened::Bad => codes::code(7, 0, 1),
-        Opened::Header(nodes, sheets) => state_code(session, room, nodes, sheets),
-    }
-}
-
-// The answers of a session with this header, as a number for the host.
-fn answers_code(session: &[u8], list: &mut [u64], nodes: u8, sheets: u16) -> u64
-    requires { ⌜ Header nodes sheets ≡ opened (now session) ⌝ }
-    ensures { λ r. ⌜ record { code = r; room = now (list .exit) } ≡ told-call (answers-call (now (session .entry)) (now (list .entry))) ⌝ }
-{
-    let told = answers::tell_all(session, list, nodes, sheets);
-    match told {
-        Told::Answers(n) => codes::code(8, n as u64, 0),
-        Told::TooShort(n) => codes::code(7, n as u64, 15),
-    }
-}
-
-// Lists every command's answer, as cusphewa_answer's numbers, up to the first refusal: how many there are, or a refusal, which writes nothing.
-#[no_mangle]
-pub extern "C" fn cusphewa_answers(session: &[u8], list: &mut [u64]) -> u64
-    ensures { λ r. ⌜ record { code = r; room = now (list .exit) } ≡ told-call (answers-call (now (session .entry)) (now (list .entry))) ⌝ }
-    ensures prefixes { λ _. ⌜ EachPrefix (now (session .entry)) ⌝ }
-{
-    let header = wire::read_header(session);
-    match header {
-        Opened::Bad => codes::code(7, 0, 1),
-        Opened::Header(nodes, sheets) => answers_code(session, list, nodes, sheets),
     }
 }

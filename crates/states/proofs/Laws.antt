@@ -39,6 +39,10 @@ fits {x = x} {room = room} w h p =
     let f = wrote-front (wrote-as refl (omega arith) p) (let z : length x ≤ length room = omega (arith, q, h) in z) in
     rw (le-ltb (length room) (length x) (omega (arith, q, h))) (ap (λ (r : Filled). record { outcome = lists.wrote (r .size); room = r .buffer }) f)
 
+-- in so much room any text fits
+pub fits-all : (m : ℕ) {x room after : List ℕ} {e : ℕ} → m ≤ 64 → 524288 ≤ length room → Wrote room 0 x (text-room m) e after → record { outcome = lists.wrote e; room = after } ≡ fitted x room
+fits-all m h k p = let q = length-is p in fits p (omega (arith, q, p .short)) p
+
 -- no text is longer
 pub room-enough : (m : ℕ) {l k x : List ℕ} {n : ℕ} → m ≤ 64 → Wrote l 0 x (text-room m) n k → n ≤ 524288
 room-enough m h w = omega (arith, length-is w, w .short)

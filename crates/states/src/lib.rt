@@ -1,10 +1,11 @@
-// The state after a session's accepted commands, as text into a lent room.
+// The state after a session's accepted commands, as text into a lent room: the call that shows it.
 ghost use mathlib.Core.Path.{_≡_};
 ghost use mathlib.Core.List.{[]};
 ghost use Prim.Native.Nat.{_≤_};
 ghost use lib.ListN.{length};
 ghost use Rattle.rules.specs.Sizes.{max-state};
-ghost use Rattle.rules.specs.Showing.{state-text, state-call};
+ghost use Rattle.rules.specs.Showing.{GrantedAlone, state-text, state-call};
+ghost use Rattle.codes.specs.Codes.{told-call};
 ghost use Rattle.wire.specs.Meaning.{opened};
 ghost use Rattle.wire.specs.declared.Opened.the-variants.{Header};
 ghost use Rattle.state.specs.Slices.{slices};
@@ -14,6 +15,7 @@ ghost use Rattle.showing.specs.Shows.{Shows};
 ghost use Rattle.states.specs.Meaning.{outcome-of, fitted, ShortText, Small};
 use state::Session;
 use tally::Tally;
+use wire::Opened;
 
 // How long the text is that was written, or how long a room it needs, where the one that was lent is too short.
 pub enum Shown {
@@ -21,7 +23,11 @@ pub enum Shown {
     TooShort(usize),
 }
 
-// The text of the slices' state, if it fits: lent no room, the writer tells how long it is.
+// No state's text is longer.
+const MOST: usize = 524288;
+
+// The text of the slices' state, if it fits. Any does in so much room; else it is asked first how long it is, which the writer tells where it
+// is lent none.
 fn fill(
     room: &mut [u8],
     b: &[u8],
@@ -41,6 +47,10 @@ fn fill(
         length (state-text (shown m (slices (now (b .entry)) [] (now (value .entry)) (now (seen .entry)) (now (w .entry))) (figures tally))) ≤ max-state
         ⌝ }
 {
+    if MOST <= room.len() {
+        let e = showing::text(room, b, value, seen, w, m, tally);
+        return Shown::Text(e);
+    }
     let mut none = [0u8; 0];
     let n = showing::text(&mut none, b, value, seen, w, m, tally);
     if room.len() < n {
@@ -76,4 +86,31 @@ pub fn show(session: &[u8], room: &mut [u8], nodes: u8, sheets: u16) -> Shown
     );
     let t = r.tally;
     fill(room, &b, &value, &seen, &w, m, t)
+}
+
+// The state that a session with this header leads to, as a number for the host.
+fn state_code(session: &[u8], room: &mut [u8], nodes: u8, sheets: u16) -> u64
+    requires { ⌜ Header nodes sheets ≡ opened (now session) ⌝ }
+    ensures { λ r. ⌜ record { code = r; room = now (room .exit) } ≡ told-call (state-call (now (session .entry)) (now (room .entry))) ⌝ }
+    ensures short { λ _. ⌜ ShortText (now (session .entry)) ⌝ }
+{
+    let shown = show(session, room, nodes, sheets);
+    match shown {
+        Shown::Text(n) => codes::code(8, n as u64, 0),
+        Shown::TooShort(n) => codes::code(7, n as u64, 15),
+    }
+}
+
+// Writes the state after the session's accepted commands, as text: how many bytes it has, or a refusal, which writes nothing.
+#[no_mangle]
+pub extern "C" fn cusphewa_state(session: &[u8], room: &mut [u8]) -> u64
+    ensures { λ r. ⌜ record { code = r; room = now (room .exit) } ≡ told-call (state-call (now (session .entry)) (now (room .entry))) ⌝ }
+    ensures short { λ _. ⌜ ShortText (now (session .entry)) ⌝ }
+    ensures granted { λ _. ⌜ GrantedAlone ⌝ }
+{
+    let header = wire::read_header(session);
+    match header {
+        Opened::Bad => codes::code(7, 0, 1),
+        Opened::Header(nodes, sheets) => state_code(session, room, nodes, sheets),
+    }
 }

@@ -1,10 +1,10 @@
 -- The answer's number.
 use mathlib.Core.Path.{_∙_}
 use native.Mathlib.Omega.{arith}
-use Rattle.cusphewa.proofs.Views.{list-told, few-told, list-small, few-small, answers-of}
+use Rattle.answers.proofs.Views.{list-told, few-told, list-small, few-small, answers-of}
 use borrow.Author.Needs.{needs}
-use Rattle.cusphewa.proofs.answers_code.Statement.{statement}
-use Rattle.cusphewa.proofs.answers_code.Tie as tie
+use Rattle.answers.proofs.answers_code.Statement.{statement}
+use Rattle.answers.proofs.answers_code.Tie as tie
 
 tell-all-requires : tie.Need-tell-all-requires
 tell-all-requires c κs = search needs

@@ -1,9 +1,9 @@
 -- The answer's number.
 use native.Mathlib.Omega.{arith}
-use Rattle.cusphewa.proofs.Views.{text-told, short-told, text-small, needs-small}
+use Rattle.states.proofs.Views.{text-told, short-told, text-small, needs-small}
 use borrow.Author.Needs.{needs}
-use Rattle.cusphewa.proofs.state_code.Statement.{statement}
-use Rattle.cusphewa.proofs.state_code.Tie as tie
+use Rattle.states.proofs.state_code.Statement.{statement}
+use Rattle.states.proofs.state_code.Tie as tie
 
 show-requires : tie.Need-show-requires
 show-requires c κs = search needs

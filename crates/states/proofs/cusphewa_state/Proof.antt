@@ -1,10 +1,10 @@
 -- Refusal 1, or the state of the run; what is said of entries is the rules' theorem.
 use mathlib.Core.Path.{sym, _∙_}
 use Rattle.rules.proofs.Showing.{granted-alone}
-use Rattle.cusphewa.proofs.Views.{no-state, no-text}
+use Rattle.states.proofs.Views.{no-state, no-text}
 use borrow.Author.Needs.{needs}
-use Rattle.cusphewa.proofs.cusphewa_state.Statement.{statement}
-use Rattle.cusphewa.proofs.cusphewa_state.Tie as tie
+use Rattle.states.proofs.cusphewa_state.Statement.{statement}
+use Rattle.states.proofs.cusphewa_state.Tie as tie
 
 read-header-requires : tie.Need-read-header-requires
 read-header-requires c κs = search needs

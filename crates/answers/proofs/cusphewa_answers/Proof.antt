@@ -1,10 +1,10 @@
 -- Refusal 1, or the list of the pass; that it is the answer call's on each prefix is the rules' theorem.
 use mathlib.Core.Path.{sym, _∙_}
 use Rattle.rules.proofs.Answers.{each-prefix}
-use Rattle.cusphewa.proofs.Views.{no-answers}
+use Rattle.answers.proofs.Views.{no-answers}
 use borrow.Author.Needs.{needs}
-use Rattle.cusphewa.proofs.cusphewa_answers.Statement.{statement}
-use Rattle.cusphewa.proofs.cusphewa_answers.Tie as tie
+use Rattle.answers.proofs.cusphewa_answers.Statement.{statement}
+use Rattle.answers.proofs.cusphewa_answers.Tie as tie
 
 read-header-requires : tie.Need-read-header-requires
 read-header-requires c κs = search needs
