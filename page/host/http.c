@@ -9,6 +9,7 @@
 #include <stdio.h>
 #include <stdlib.h>
 #include <string.h>
+#include <strings.h>
 #include <sys/socket.h>
 #include <time.h>
 
@@ -103,6 +104,25 @@ static const char *header(struct MHD_Connection *c, const char *name)
     return MHD_lookup_connection_value(c, MHD_HEADER_KIND, name);
 }
 
+static enum MHD_Result count(void *cls, enum MHD_ValueKind kind, const char *name, const char *value)
+{
+    (void)kind, (void)value;
+    unsigned *counts = cls;
+    const char *const once[] = {MHD_HTTP_HEADER_HOST, MHD_HTTP_HEADER_CONTENT_TYPE, MHD_HTTP_HEADER_CONTENT_LENGTH};
+    for (size_t i = 0; i < sizeof once / sizeof *once; i++)
+        if (strcasecmp(name, once[i]) == 0)
+            counts[i]++;
+    return MHD_YES;
+}
+
+/* What is checked here is the first of its name: another one could say something else to whoever stands between. */
+static bool ambiguous(struct MHD_Connection *c)
+{
+    unsigned counts[3] = {0};
+    MHD_get_connection_values(c, MHD_HEADER_KIND, count, counts);
+    return counts[0] > 1 || counts[1] > 1 || counts[2] > 1;
+}
+
 /* A page of another name that resolves to this address is not ours (DNS rebinding). */
 static bool host_is_ours(struct MHD_Connection *c)
 {
@@ -117,12 +137,19 @@ static bool host_is_ours(struct MHD_Connection *c)
     return false;
 }
 
-/* A body is refused before it is read: by its length, or because it does not say one. libmicrohttpd has already refused a length that is no
-   number. */
+/* A body, of whatever request, is refused before it is read: by its length, or because it does not say one. libmicrohttpd has already refused a
+   length that is no number. */
 static bool too_long(struct MHD_Connection *c)
 {
     const char *length = header(c, MHD_HTTP_HEADER_CONTENT_LENGTH);
     return header(c, MHD_HTTP_HEADER_TRANSFER_ENCODING) || (length && strtoull(length, NULL, 10) > BODY_BYTES);
+}
+
+/* No form of another site can send this type. */
+static bool is_session(struct MHD_Connection *c)
+{
+    const char *type = header(c, MHD_HTTP_HEADER_CONTENT_TYPE);
+    return type && strcasecmp(type, "application/octet-stream") == 0;
 }
 
 static bool is(const char *method, const char *name)
@@ -135,20 +162,18 @@ static enum MHD_Result on_headers(struct MHD_Connection *c, const char *url, con
 {
     const struct file *f = file_at(url);
     bool get = is(method, MHD_HTTP_METHOD_GET) || is(method, MHD_HTTP_METHOD_HEAD), words = strcmp(url, "/words.json") == 0;
+    if (ambiguous(c))
+        return say(c, MHD_HTTP_BAD_REQUEST, "a header stands there twice\n", NULL);
     if (!host_is_ours(c))
         return say(c, MHD_HTTP_FORBIDDEN, "this host has another name\n", NULL);
     if (!f && !words && !posted(url))
         return say(c, MHD_HTTP_NOT_FOUND, "there is nothing here\n", NULL);
     if (posted(url) ? !is(method, MHD_HTTP_METHOD_POST) : !get)
         return say(c, MHD_HTTP_METHOD_NOT_ALLOWED, "not this method\n", posted(url) ? "POST" : "GET, HEAD");
-    if (posted(url)) {
-        const char *type = header(c, MHD_HTTP_HEADER_CONTENT_TYPE);
-        /* no form of another site can send this type */
-        if (!type || strcmp(type, "application/octet-stream") != 0)
-            return say(c, MHD_HTTP_UNSUPPORTED_MEDIA_TYPE, "a session is application/octet-stream\n", NULL);
-        if (too_long(c))
-            return say(c, MHD_HTTP_CONTENT_TOO_LARGE, "a session has at most 16,384 bytes, and says its length\n", NULL);
-    }
+    if (posted(url) && !is_session(c))
+        return say(c, MHD_HTTP_UNSUPPORTED_MEDIA_TYPE, "a session is application/octet-stream\n", NULL);
+    if (too_long(c))
+        return say(c, MHD_HTTP_CONTENT_TOO_LARGE, "a session has at most 16,384 bytes, and says its length\n", NULL);
     *read_body = true;
     return MHD_YES;
 }
@@ -189,7 +214,7 @@ static enum MHD_Result on_request(void *cls, struct MHD_Connection *c, const cha
     if (*size == 0)
         return on_whole(c, url, b);
     if (*size > BODY_BYTES - b->length)
-        return MHD_NO; /* a GET with a body that it was not asked for */
+        return MHD_NO; /* longer than it said */
     memcpy(b->bytes + b->length, data, *size);
     b->length += *size;
     *size = 0;
@@ -260,7 +285,8 @@ uint16_t http_start(const char *address, uint16_t port)
         guests[i].socket = -1;
     the_daemon = MHD_start_daemon(MHD_USE_AUTO | MHD_USE_INTERNAL_POLLING_THREAD, port, NULL, NULL, on_request, NULL, MHD_OPTION_SOCK_ADDR,
                                   (struct sockaddr *)&here, MHD_OPTION_NOTIFY_COMPLETED, on_end, NULL, MHD_OPTION_NOTIFY_CONNECTION,
-                                  on_connection, NULL, MHD_OPTION_CONNECTION_LIMIT, (unsigned)CONNECTIONS, MHD_OPTION_CONNECTION_TIMEOUT, (unsigned)IDLE_SECONDS, MHD_OPTION_END);
+                                  on_connection, NULL, MHD_OPTION_CONNECTION_LIMIT, (unsigned)CONNECTIONS, MHD_OPTION_CONNECTION_TIMEOUT,
+                                  (unsigned)IDLE_SECONDS, MHD_OPTION_END);
     const union MHD_DaemonInfo *bound = the_daemon ? MHD_get_daemon_info(the_daemon, MHD_DAEMON_INFO_BIND_PORT) : NULL;
     own_port = bound ? bound->port : 0;
     return own_port;

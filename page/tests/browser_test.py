@@ -32,7 +32,7 @@ def view(width=1280, height=800, scheme='light'):
 def settle():
     """Until the page shows what it was asked for."""
     for _ in range(400):
-        if js("return document.querySelector('main').getAttribute('aria-busy')") == 'false':
+        if js("return document.getElementById('panels').getAttribute('aria-busy')") == 'false':
             return
         time.sleep(.02)
     check('the page settles', False, js("return document.body.innerText.slice(0, 300)"))
@@ -136,7 +136,7 @@ W_SAID = """1 / 17 BEGIN 0 Save 0 begins its first run. It works on copies of it
 
 WIDE_SAID = """11 / 32 TAKE 0 Node 0 takes save 1 at place 1 and finds it invalid at sheet 0, counter behind: it saw counter 0, and the sheet’s is 1. It holds S on sheet 0.
 17 / 32 READ 1 1 Save 1 reads sheet 1 at node 0 and gets 0. With this its run is wide.
-18 / 32 SUBMIT 1 Save 1 joins the order at place 3 once more, for its run was wide; place 1 is a former place now. It claims S on sheet 0 and S on sheet 1; its entries go and its failed mark is cleared.
+18 / 32 SUBMIT 1 Save 1 joins the order at place 3 once more, for its run was wide; place 1 is a former place now. It claims S on sheets 0 and 1; its entries go and its failed mark is cleared.
 20 / 32 TAKE 0 Node 0 takes save 1 at place 3 and finds it invalid at sheet 1, X granted: save 2’s X is at the front of the queue. It holds S on sheet 0 and waits on sheet 1 for save 2.
 22 / 32 APPLY 0 2 Node 0 carries out save 2, which was committed: sheet 1 now holds 5, counter 1. Its entries here go; save 1 now holds S on sheet 1.
 26 / 32 TAKE 1 Node 1 takes save 0 at place 0 and finds it valid. It has no entry here.
@@ -159,6 +159,39 @@ def told():
         pick(name)
         step(at)
         check(f'said: {want}', said().endswith(want), said())
+
+
+# save 1 is found valid by node 1 at place 1, which is a former place later
+FORMER = 'nodes 2\nowners 0 1\nBEGIN 0\nBEGIN 1\nREAD 0 0\nWRITE 0 0 4\nREAD 1 0\nREAD 1 1\nSUBMIT 0\nSUBMIT 1\nTAKE 0\nTAKE 0\nTAKE 1\nTAKE 1\nDECIDE 0\nAPPLY 0 0\nDECIDE 1\nREAD 1 0\nWRITE 1 0 9\nSUBMIT 1\nTAKE 0\nDECIDE 1\n'
+# save 1 waits at node 0 and has not been taken at node 1; all on four sheets
+APART = 'nodes 2\nowners 0 0 0 1\nBEGIN 0\nBEGIN 1\n' + ''.join(f'READ {t} {k}\nWRITE {t} {k} 5\n' for t in (0, 1) for k in range(4)) + 'SUBMIT 0\nSUBMIT 1\nTAKE 0\nTAKE 0\nDECIDE 1\n'
+
+
+def many():
+    """Many sheets, many waits, former places: told shortly, and what is left out is said."""
+    load()
+    write(FORMER)
+    press(Keys.END)
+    check('a verdict stays what it was', js("return [...document.querySelectorAll('#order td')].map(e => e.title).filter(Boolean)") == ['found valid', 'found invalid: sheet 0, X granted', 'found valid', 'found valid', 'found valid'])
+    check('the last place is not taken', said().endswith('Refusal 10: node 1 has not taken save 1 at place 2 and owns sheet 1 of its claim.'), said())
+    write(APART)
+    press(Keys.END)
+    check('both of 10', said().endswith('Refusal 10: node 1 has not taken save 1 at place 1 and owns sheet 3 of its claim; save 1 waits for save 0 on sheets 0 to 2.'), said())
+    press(Keys.ARROW_LEFT)
+    check('sheets together', said().endswith('It waits on sheets 0 to 2 for save 0.'), said())
+    step(19)
+    check('a claim on many', said().endswith('Save 0 joins the order at place 0. It claims X on sheets 0 to 3.'), said())
+    session(crowded())
+    for at, arrows, note in [(135, 21, ''), (136, 7, '7 of 28 arrows are drawn: from each save that waits to the latest in the order that it waits for. The queues below name all.'), (160, 31, '31 of 496 arrows'), (100, 0, '')]:
+        step(at)
+        drawn = js("return [...document.querySelectorAll('.lanes .arrow')].map(a => [+a.dataset.from, +a.dataset.to])")
+        check(f'arrows after {at}', len(drawn) == arrows and (hidden('arrows') if not note else text('arrows').startswith(note) and not hidden('arrows')), (len(drawn), text('arrows')))
+        check('to the latest', not note or all(u == t - 1 for t, u in drawn), drawn)
+    step(136)
+    saved = d.execute_async_script("""const done = arguments[0], make = URL.createObjectURL; URL.createObjectURL = b => { b.text().then(done); return make(b); }; document.getElementById('save').click();""")
+    check('the file says so too', '7 of 28 arrows are drawn' in saved, saved[:200])
+    write('01 01 00 ' + '01 ' * 150000)
+    check('a line of 150,003 bytes', key_lines() == ['R 0 1'] and said().startswith('0 / 0 Refusal 1'), said())
 
 
 def walk():
@@ -218,7 +251,7 @@ def typing():
                         ('BEGIN 0\nREAD 0 2\n', '2 / 2 READ 0 2 Refusal 4: this session has nodes 0 to 1 and sheets 0 to 1, and saves go from 0 to 31.'), ('SUBMIT 3\n', '1 / 1 SUBMIT 3 Refusal 13: save 3 never began.'),
                         ('BEGIN 0\nGIVE UP 0\nREAD 0 0\n', '3 / 3 READ 0 0 Refusal 14: save 0 is dropped.'), ('BEGIN 0\nWRITE 0 0 5\n', '2 / 2 WRITE 0 0 5 Refusal 7: save 0 has no copy of sheet 0 from this run.'),
                         ('TAKE 0\n', '1 / 1 TAKE 0 Refusal 9: no save has been submitted.'), ('BEGIN 0\nSUBMIT 0\nTAKE 0\nTAKE 0\n', '4 / 4 TAKE 0 Refusal 9: node 0 has taken all 1 place of the order.'),
-                        ('BEGIN 0\nREAD 0 1\nSUBMIT 0\nDECIDE 0\n', '4 / 4 DECIDE 0 Refusal 10: save 0 stands at place 0, and node 0 has taken 0 places and node 1 has taken 0 places.'), ('BEGIN 0\nSUBMIT 0\nDECIDE 0\nAPPLY 0 0\n', '4 / 4 APPLY 0 0 Refusal 11: save 0 has no entry in the queues of node 0.'),
+                        ('BEGIN 0\nREAD 0 1\nSUBMIT 0\nDECIDE 0\n', '4 / 4 DECIDE 0 Refusal 10: node 1 has not taken save 0 at place 0 and owns sheet 1 of its claim.'), ('BEGIN 0\nSUBMIT 0\nDECIDE 0\nAPPLY 0 0\n', '4 / 4 APPLY 0 0 Refusal 11: save 0 has no entry in the queues of node 0.'),
                         ('BEGIN 0\nREAD 0 0\nWRITE 0 0 1\nSUBMIT 0\nTAKE 0\nBEGIN 1\nREAD 1 0\n', '7 / 7 READ 1 0 Refusal 6: save 0’s X is at the front of sheet 0’s queue.')]:
         write(head + words)
         press(Keys.END)
@@ -441,6 +474,9 @@ def chips():
     js("[...document.querySelectorAll('button.chip')].find(e => e.textContent.startsWith('TAKE 1')).click()")
     settle()
     check('it is put behind the shown step', said().startswith('9 / 18 TAKE 1') and sent() == W[:32] + b'\x05\x01' + W[32:], said())
+    js("const c = [...document.querySelectorAll('button.chip')].find(e => e.textContent.startsWith('BEGIN 2')); c.click(); c.click()")
+    settle()
+    check('pressed twice at once it is put once', sent() == W[:32] + b'\x05\x01\x01\x02' + W[32:], sent().hex())
     pick('refusal-10.txt')
     press(Keys.END)
     n = len(ask(sent())['answers'])
@@ -515,7 +551,7 @@ def veil():
         step(i)
         check('no refusal is told ahead', 'refused' not in ' '.join(answers()) and hidden('refusal') and text('refusal') == '' and not js("return document.querySelectorAll('#answers .refused, #answers .beyond, .lanes .refused').length")
               and not any(l.startswith('R') for l in key_lines()), i)
-        check('nor by the number of steps', js("return document.getElementById('slider').max") == total and not js("return document.getElementById('on').disabled"))
+        check('nor by the number of steps', js("return document.getElementById('slider').max") == total and js("return document.getElementById('on').ariaDisabled") == 'false')
     step(n)
     check('then it is', 'refused 10' in answers() and not hidden('refusal') and key_lines()[-1].startswith('R '))
     tick('veiled', False)
@@ -682,12 +718,21 @@ def keyboard():
     check('the skip link is first and can be seen', js("const e = document.activeElement; return e.className === 'skip' && e.getBoundingClientRect().top >= 0"))
     ActionChains(d).send_keys(Keys.ENTER).perform()
     check('and leads to the steps', js("return document.activeElement.id") == 'steps')
-    check('which leaves the session alone', sent() == W if js('return location.hash').startswith('#s=') else js("return document.getElementById('words').value").startswith('# W'))
+    check('which leaves the session and its address alone', sent() == W)
     js("const w = document.getElementById('words'); w.focus(); w.setSelectionRange(0, 0)")
     at = said()
     ActionChains(d).send_keys(Keys.ARROW_RIGHT).send_keys(Keys.END).perform()
     settle()
     check('keys in the text move in the text', said() == at, said())
+    d.find_element(By.ID, 'last').click()
+    settle()
+    check('a button at the end keeps the focus', js("return [document.activeElement.id, document.activeElement.ariaDisabled]") == ['last', 'true'])
+    pick('refusal-10.txt')
+    js("window.changes = 0; for (const id of ['refusal', 'wrong']) new MutationObserver(l => { window.changes += l.length; }).observe(document.getElementById(id), { childList: true, characterData: true, subtree: true })")
+    press(Keys.HOME, Keys.ARROW_RIGHT, Keys.END)
+    check('a refusal is said once, and not at every step', js('return window.changes') == 0 and not hidden('refusal'), js('return window.changes'))
+    check('what is said of a step is not in a part that is busy', js("return !document.getElementById('said').closest('[aria-busy]')"))
+    load()
     check('landmarks', js("return [document.querySelectorAll('main').length, document.querySelectorAll('header').length, document.querySelectorAll('h1').length, document.documentElement.lang]") == [1, 1, 1, 'en'])
     check('headings go down one by one', js("let last = 0; return [...document.querySelectorAll('h1, h2, h3, h4')].every(h => { const n = +h.tagName[1], ok = n <= last + 1; last = n; return ok; })"))
     unnamed = js("return [...document.querySelectorAll('button, input, select, textarea, [tabindex=\"0\"]')].filter(e => !(e.getAttribute('aria-label') || e.getAttribute('aria-labelledby') || e.labels?.length || e.textContent.trim())).map(e => e.id || e.className)")
@@ -710,7 +755,7 @@ def gone():
     check('the host is gone, and it is said', text('alarm') == 'The host does not answer. Is it still running?' and not hidden('alarm'), text('alarm'))
 
 
-GROUPS = [walk, told, typing, bad_texts, composing, all_examples, compare, keys, chips, stale, veil, links, files, contrast, widths, keyboard, gone]
+GROUPS = [walk, told, many, typing, bad_texts, composing, all_examples, compare, keys, chips, stale, veil, links, files, contrast, widths, keyboard, gone]
 if __name__ == '__main__':
     view()
     check.run(GROUPS, sys.argv[2:])

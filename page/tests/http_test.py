@@ -62,6 +62,13 @@ def surface():
         check(f'Host {name!r}', status('GET', '/', Host=name) == code, status('GET', '/', Host=name))
         check(f'Host {name!r} of a session', host.request('POST', '/session', W, {'Host': name, 'Content-Type': TYPE})[0] == code)
     check('no Host', b' 403 ' in raw(b'GET / HTTP/1.0\r\n\r\n').split(b'\r\n')[0] or b' 400 ' in raw(b'GET / HTTP/1.0\r\n\r\n').split(b'\r\n')[0])
+    for name, twice in [('Host', f'Host: {HERE}\r\nHost: evil.example'), ('Content-Length', f'Host: {HERE}\r\nContent-Length: 3\r\nContent-Length: 20000'), ('Content-Type', f'Host: {HERE}\r\nContent-Type: {TYPE}\r\nContent-Type: text/plain')]:
+        got = raw(f'POST /session HTTP/1.1\r\n{twice}\r\n\r\n'.encode())
+        check(f'{name} twice', got.startswith(b'HTTP/1.1 400'), got[:60])
+    check('a type in capitals', host.request('POST', '/session', W, {'Content-Type': TYPE.upper()})[0] == 200)
+    for name, line, code in [('an address of this host', f'GET http://{HERE}/ HTTP/1.1', b'404'), ('an address of another', 'GET http://evil.example/ HTTP/1.1', b'404'), ('HTTP/1.0', 'GET / HTTP/1.0', b'200'), ('a query', 'GET /?a=b HTTP/1.1', b'200')]:
+        got = raw(f'{line}\r\nHost: {HERE}\r\n\r\n'.encode())
+        check(f'{name}', got.startswith(b'HTTP/1.1 ' + code), got[:60])
     check('not HTTP', raw(b'\x16\x03\x01\x02\x00\x01\x00\x01\xfc\x03\x03 nonsense\r\n\r\n', 3)[:9] in (b'', b'HTTP/1.1 '))
 
 
@@ -92,7 +99,8 @@ def sizes():
     flood = raw(b'GET / HTTP/1.1\r\nHost: ' + HERE.encode() + b'\r\n' + b''.join(b'X-%d: %s\r\n' % (i, b'y' * 200) for i in range(2000)) + b'\r\n', 5)
     check('a flood of headers', flood[:10] in (b'HTTP/1.1 4', b''), flood[:60])
     check('alive after it', status('GET', '/') == 200)
-    check('a GET with a body', raw(b'GET / HTTP/1.1\r\nHost: ' + HERE.encode() + b'\r\nContent-Length: 60000\r\n\r\n' + bytes(60000))[:12] in (b'HTTP/1.1 413', b'HTTP/1.1 200', b''))
+    for said in ['Content-Length: 60000', 'Transfer-Encoding: chunked']:
+        check(f'a GET with a body, {said}', raw(f'GET / HTTP/1.1\r\nHost: {HERE}\r\n{said}\r\n\r\n'.encode()).startswith(b'HTTP/1.1 413'))
 
 
 def said():

@@ -1,4 +1,4 @@
-/* Small tools for the document. Text is always put in as text. */
+/* Small tools. Text is always put into the document as text. */
 
 export const $ = id => document.getElementById(id);
 
@@ -17,3 +17,10 @@ export const svg = (tag, at, ...kids) => {
 };
 
 export const figures = n => n.toLocaleString('en');
+
+/* [[name, [item, ..]], ..]: the items of a list by their names, which come as they are first met. */
+export function grouped(list, name) {
+  const groups = new Map();
+  for (const x of list) groups.set(name(x), [...(groups.get(name(x)) ?? []), x]);
+  return [...groups];
+}

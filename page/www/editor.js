@@ -75,17 +75,25 @@ function message(now, limit, ahead) {
   return number === 4 && !ahead ? `line ${lineWith(now, offset) + 1}: refused 4: ${REFUSALS[4]}` : now.message;
 }
 
+/* The refusal with what the step met, and its bytes. */
+function refusal({ reply, steps, bytes, header }, met) {
+  const [offset, number] = reply.refusal, cause = steps.length ? reason(steps.at(-1).f, number, met, header) : '', [from, size] = reply.shown;
+  return [el('b', '', `Refusal ${number}`), ` at byte ${figures(offset)}: ${REFUSALS[number]}.`, cause ? ` Here ${cause}.` : '',
+    ...(size ? [' ', el('code', '', hex(bytes.slice(from, from + size)))] : [])];
+}
+
+/* What is said already is left as it is: a reader says every change. */
+function note(box, ...parts) {
+  const whole = el('p', '', ...parts);
+  box.hidden = !whole.textContent;
+  if (box.textContent !== whole.textContent) box.replaceChildren(...whole.childNodes);
+}
+
 /* `met` is the state that the refused step met, if it is known. */
 export function drawNotes(now, limit, veiled, met) {
-  const { reply, steps, bytes, header, at } = now, box = $('refusal'), ahead = veiled && at < steps.length, said = message(now, limit, ahead);
-  $('wrong').hidden = !said;
-  $('wrong').textContent = said;
-  box.hidden = !reply.refusal || !bytes.length || ahead;
-  box.replaceChildren();
-  if (box.hidden) return;
-  const [offset, number] = reply.refusal, cause = steps.length ? reason(steps.at(-1).f, number, met, header) : '', [from, size] = reply.shown;
-  box.append(el('b', '', `Refusal ${number}`), ` at byte ${figures(offset)}: ${REFUSALS[number]}.`, cause ? ` Here ${cause}.` : '');
-  if (size) box.append(' ', el('code', '', hex(bytes.slice(from, from + size))));
+  const ahead = veiled && now.at < now.steps.length;
+  note($('wrong'), message(now, limit, ahead));
+  note($('refusal'), ...(now.reply.refusal && now.bytes.length && !ahead ? refusal(now, met) : []));
 }
 
 export function drawBytes(now) {

@@ -53,7 +53,7 @@ function phaseNames(save) {
 class Lanes {
   constructor(model, room) {
     Object.assign(this, model);
-    const n = Math.max(1, this.total), fit = Math.floor((room - LEFT - RIGHT / 2) / n), last = this.steps[this.shown - 1];
+    const n = Math.max(1, this.total), fit = Math.floor((room - LEFT - RIGHT) / n), last = this.steps[this.shown - 1];
     this.column = fit >= LEAST ? Math.min(WIDE, fit) : NARROW;
     this.end = Math.min(this.states.length - 1, this.shown); // the last state that is drawn
     this.saves = [...this.states[this.end].saves.keys()].sort((a, b) => a - b);
@@ -119,10 +119,13 @@ class Lanes {
     g.append(svg('rect', { class: 'pill', x: -w / 2, y: -9.5, width: w, height: 19, rx: byNode ? 3 : 9.5 }), letter);
   }
 
-  /* From a save that waits to each whose entry stands in its way; to the nearest only where there would be too many. */
+  /* From a save that waits to each whose entry stands in its way. Where these would be too many, only to the one that is latest in the order, and
+     `fewer` says so. */
   arrows(group) {
-    const on = t => lockOf(this.state, t)?.on ?? [], count = this.saves.reduce((n, t) => n + on(t).length, 0);
-    for (const t of this.saves) for (const u of count <= MOST_ARROWS ? on(t) : on(t).slice(-1)) this.arrow(group, t, u);
+    const waits = this.saves.map(t => [t, lockOf(this.state, t)?.on ?? []]).filter(([, on]) => on.length), count = waits.reduce((n, [, on]) => n + on.length, 0);
+    const place = u => this.state.saves.get(u).place, latest = on => [on.reduce((u, v) => place(v) > place(u) ? v : u)];
+    for (const [t, on] of waits) for (const u of count <= MOST_ARROWS ? on : latest(on)) this.arrow(group, t, u);
+    this.fewer = count <= MOST_ARROWS ? '' : `${waits.length} of ${count} arrows are drawn: from each save that waits to the latest in the order that it waits for.`;
   }
 
   arrow(group, t, u) {
@@ -186,7 +189,7 @@ function patterns() {
 /* The drawing; the shown step's column lies between `from` and `to`, with room for the names before it and for a step behind it. */
 export function draw(model, room) {
   const lanes = new Lanes(model, room);
-  return { root: lanes.draw(), from: lanes.now - lanes.column - LEFT, to: lanes.now + lanes.column };
+  return { root: lanes.draw(), from: lanes.now - lanes.column - LEFT, to: lanes.now + lanes.column, fewer: lanes.fewer };
 }
 
 /* The lanes told, a save at a time. */
@@ -214,10 +217,10 @@ function styles() {
 /* What the colours and shapes mean, in a row. */
 function key(y) {
   const g = svg('g', {});
-  const band = (phase, height) => [PHASES[phase], x => svg('rect', { class: `band ${phase}`, x, y: y - height / 2 - 4, width: 18, height })];
+  const band = (phase, height, more = '') => [more || PHASES[phase], x => svg('rect', { class: `band ${phase} ${more}`, x, y: y - height / 2 - 4, width: 18, height })];
   const lock = name => [name, x => svg('rect', { class: `lock ${name}`, x, y: y - 6, width: 18, height: 5 })];
   const mark = (name, rx) => [name, x => svg('rect', { class: 'pill', x: x + 3, y: y - 10, width: 13, height: 13, rx })];
-  const items = [band('F', 12), band('S', 12), band('L', 12), band('C', 6), band('D', 6), lock('holds'), lock('waits'), mark('by a node', 2), mark('by a save', 6.5)];
+  const items = [band('F', 12), band('S', 12), band('L', 12), band('L', 12, 'wide'), band('C', 6), band('D', 6), lock('holds'), lock('waits'), mark('by a node', 2), mark('by a save', 6.5)];
   let x = 12;
   for (const [name, shape] of items) {
     g.append(shape(x), svg('text', { class: 'caption', x: x + 23, y }, name));
@@ -226,9 +229,9 @@ function key(y) {
   return { row: g, width: x };
 }
 
-export function toFile(model, caption) {
+export function toFile(model, about) {
   const lanes = new Lanes(model, 0), inner = lanes.draw(), height = lanes.height + 76, { row, width: least } = key(height - 12);
-  const width = Math.max(lanes.width + 24, least);
+  const caption = lanes.fewer ? `${about}. ${lanes.fewer}` : about, width = Math.max(lanes.width + 24, least, wide(caption, 13, true) + 30);
   inner.setAttribute('x', 12);
   inner.setAttribute('y', 44);
   inner.removeAttribute('aria-hidden');

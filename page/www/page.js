@@ -32,9 +32,9 @@ async function post(path, bytes) {
   return reply.json();
 }
 
-/* While what is shown is older than what was asked for. */
+/* While what is shown is older than what was asked for. What a reader says of a step is not in a part that is busy: it would be kept back. */
 function busy(yes) {
-  document.querySelector('main').setAttribute('aria-busy', yes);
+  $('panels').setAttribute('aria-busy', yes);
 }
 
 function alarm(text) {
@@ -68,9 +68,16 @@ function take(read, bytes, reply) {
   now = { ...read, bytes, reply, steps, written, states, header, lineOf, at: 0, around: null, told: false };
 }
 
+/* The session goes into the address. Some browsers refuse this where it comes too often; then the next change does it. */
+function remember(bytes) {
+  try {
+    history.replaceState(null, '', bytes.length ? toLink(bytes) : location.pathname);
+  } catch { /* the page goes on without */ }
+}
+
 /* Asks about the text as it stands; then shows the step `keep`, or the last one. */
 async function ask(keep = Infinity) {
-  const mine = ++asked, read = words.compose($('words').value), bytes = read.bytes.slice(0, words.limit + 1);
+  const mine = ++asked, text = $('words').value, read = words.compose(text), bytes = read.bytes.slice(0, words.limit + 1);
   fit(read.lines.length);
   busy(true);
   let reply;
@@ -82,8 +89,8 @@ async function ask(keep = Infinity) {
   }
   if (mine !== asked) return;
   alarm('');
-  take(read, bytes, reply);
-  history.replaceState(null, '', bytes.length ? toLink(bytes) : location.pathname);
+  take({ text, ...read }, bytes, reply);
+  remember(bytes);
   show(Math.min(keep, now.steps.length));
 }
 
@@ -163,8 +170,8 @@ function drawTransport(before, state) {
   $('slider').max = most;
   $('slider').value = at;
   $('slider').setAttribute('aria-valuetext', `step ${at} of ${most}`);
-  $('first').disabled = $('back').disabled = at === 0;
-  $('on').disabled = $('last').disabled = at === steps.length;
+  for (const id of ['first', 'back']) $(id).setAttribute('aria-disabled', at === 0);
+  for (const id of ['on', 'last']) $(id).setAttribute('aria-disabled', at === steps.length);
   $('said').classList.toggle('bad', step ? step.kind === REFUSED : !header.nodes && bytes.length > 0);
   $('count').textContent = `${figures(at)} / ${figures(most)}`;
   $('command').textContent = step ? step.words : '';
@@ -190,11 +197,14 @@ function undrawn() {
 function drawLanes() {
   const box = $('lanes');
   $('save').hidden = $('legend').hidden = !now.states || !now.steps.length;
+  $('arrows').hidden = true;
   if ($('save').hidden) {
     box.replaceChildren(el('p', 'quiet', undrawn()));
     return $('told').replaceChildren();
   }
-  const { root, from, to } = draw(model(), box.clientWidth);
+  const { root, from, to, fewer } = draw(model(), box.clientWidth);
+  $('arrows').hidden = !fewer;
+  $('arrows').textContent = fewer && `${fewer} The queues below name all.`;
   box.replaceChildren(root);
   for (const m of root.querySelectorAll('.mark')) m.addEventListener('click', () => show(+m.dataset.step));
   if (from < box.scrollLeft || to > box.scrollLeft + box.clientWidth) box.scrollLeft = (from + to - box.clientWidth) / 2;
@@ -250,8 +260,9 @@ function load(text) {
   return ask(veiled() ? 0 : Infinity);
 }
 
-/* Puts a step behind the shown one; a refused one is what it comes before. */
+/* Puts a step behind the shown one; a refused one is what it comes before. Not where the text has changed since: the lines are others then. */
 function press(bytes) {
+  if ($('words').value !== now.text) return;
   const after = refusedHere() ? now.at - 1 : now.at, line = after ? now.lineOf[after - 1] : lineWith(now, now.reply.commands - 1);
   const end = $('words').value.split('\n').slice(0, line + 1).join('\n').length, text = now.hex ? `${hex(bytes)} # ${words.step(bytes)}` : words.step(bytes);
   insertText(end, end, '\n' + text);
@@ -288,12 +299,13 @@ function openLink() {
 }
 
 async function copyLink() {
-  history.replaceState(null, '', toLink(now.bytes));
+  const link = new URL(toLink(now.bytes), location.href).href, holds = now.message ? 'the session up to the line that can’t be read' : 'the session without its comments';
+  remember(now.bytes);
   try {
-    await navigator.clipboard.writeText(location.href);
-    $('copied').textContent = 'Copied. The link holds the session.';
+    await navigator.clipboard.writeText(link);
+    $('copied').textContent = `Copied. The link holds ${holds}.`;
   } catch {
-    $('copied').textContent = 'It is in the address bar.';
+    $('copied').textContent = `The address bar has it. It holds ${holds}.`;
   }
   setTimeout(() => { $('copied').textContent = ''; }, 4000);
 }
@@ -329,6 +341,10 @@ function wireText() {
 }
 
 function wireSteps() {
+  document.querySelector('.skip').addEventListener('click', e => {
+    e.preventDefault(); // the address keeps the session
+    $('steps').focus();
+  });
   $('slider').addEventListener('input', e => go(+e.target.value));
   $('first').addEventListener('click', () => go(0));
   $('back').addEventListener('click', () => go(now.at - 1));

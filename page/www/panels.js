@@ -1,5 +1,5 @@
 /* The panels beside the lanes. Each draws what a state's text or the answers say, and works nothing out. */
-import { el } from './dom.js';
+import { el, grouped } from './dom.js';
 import { queue } from './state.js';
 import { brief, cause, gloss, INVALID, PHASES, ranges, REFUSALS, REFUSED, takenSave, VALID } from './sentences.js';
 
@@ -11,12 +11,6 @@ const sr = text => el('span', 'sr', text);
 /* A save's number on the colour of its phase. */
 const token = (s, t) => el('span', `token ${s.saves.get(t)?.phase ?? ''}`, sr('save '), String(t));
 const mode = m => el('span', `mode ${m}`, m);
-
-function grouped(list, name) {
-  const groups = new Map();
-  for (const x of list) groups.set(name(x), [...(groups.get(name(x)) ?? []), x]);
-  return [...groups];
-}
 
 /* ---- Nodes, sheets and queues */
 
@@ -63,10 +57,10 @@ function verdicts(steps, at, nodes) {
   return found;
 }
 
-function verdictCell(step, isNext, last) {
+function verdictCell(step, isNext) {
   if (!step) return isNext ? el('td', 'upnext', 'next') : el('td');
   const valid = step.kind === VALID, cell = el('td', valid ? 'valid' : 'invalid', valid ? '✓' : '✗', sr(valid ? ' valid' : ' invalid'));
-  cell.title = !valid ? `found invalid: ${cause(step.value, step.number)}` : last ? 'found valid' : 'a former place: moved on';
+  cell.title = valid ? 'found valid' : `found invalid: ${cause(step.value, step.number)}`;
   return cell;
 }
 
@@ -75,7 +69,7 @@ const heading = (scope, look, ...kids) => Object.assign(el('th', look, ...kids),
 function orderTable(s, found) {
   const rows = new Map(s.rows.map(r => [r.save, `${r.runs} ${r.outcome}`]));
   const places = s.places.map(({ save, last }, q) => heading('col', last ? '' : 'former', el('span', 'place', String(q)), token(s, save), last ? '' : el('span', 'was', 'former')));
-  const cells = (n, taken) => s.places.map(({ last }, q) => verdictCell(q < taken ? found[n][q] : null, q === taken, last));
+  const cells = (n, taken) => s.places.map((_, q) => verdictCell(q < taken ? found[n][q] : null, q === taken));
   const nodes = s.taken.map((taken, n) => el('tr', '', heading('row', '', `Node ${n}`), ...cells(n, taken)));
   const outs = el('tr', 'outs', heading('row', '', 'runs, out'), ...s.places.map(({ save, last }) => el('td', '', last ? rows.get(save) ?? '' : '')));
   return el('table', 'order', el('thead', '', el('tr', '', heading('col', '', 'place'), ...places)), el('tbody', '', ...nodes, outs));
@@ -160,6 +154,7 @@ export function drawNext(box, words, { tried, spent }, press) {
   const parts = groups.map(([t, list]) => el('div', 'group', el('span', 'quiet', t < 0 ? 'Nodes' : `Save ${t}`), el('div', 'chips', ...chips(words, list, press))));
   if (!yes.length) parts.push(quiet('The engine takes none of the steps that were tried.'));
   if (spent) parts.push(quiet('The session is long, so not every step was tried: READ and WRITE may be missing.'));
+  else parts.push(quiet('Tried: each save that has begun and the first that has not, each node and sheet, content 1.'));
   if (no.length) parts.push(refusedNow(words, no));
   box.replaceChildren(...parts);
   for (const [d, name] of folded(box)) d.open = open.includes(name);
@@ -168,6 +163,6 @@ export function drawNext(box, words, { tried, spent }, press) {
 /* ---- The legend */
 
 export function drawLegend(box) {
-  const items = [...[...'FSLCD'].map(p => [p, PHASES[p]]), ['holds', 'holds'], ['waits', 'waits'], ['square', 'by a node'], ['round', 'by a save']];
+  const items = [...[...'FSL'].map(p => [p, PHASES[p]]), ['L wide', 'wide'], ...[...'CD'].map(p => [p, PHASES[p]]), ['holds', 'holds'], ['waits', 'waits'], ['square', 'by a node'], ['round', 'by a save']];
   box.replaceChildren(...items.map(([look, name]) => el('li', '', el('i', `swatch ${look}`), name)));
 }

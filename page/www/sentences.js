@@ -1,17 +1,18 @@
 /* What the engine answered, in words. Every fact is read from an answer or from a state's text; nothing is worked out. */
+import { grouped } from './dom.js';
 import { copyOf, entriesOf, queue } from './state.js';
 
 export const NONE = 0, ACCEPTED = 1, CONTENT = 2, VALID = 3, INVALID = 4, COMMITTED = 5, AGAIN = 6, REFUSED = 7;
 export const PHASES = { F: 'first run', S: 'submitted', L: 'later run', C: 'committed', D: 'dropped' };
 export const RULES = ['', 'X granted', 'X waiting', 'counter behind'];
-export const OUTCOMES = { C: 'committed', D: 'dropped', U: 'neither yet' };
+export const OUTCOMES = { C: 'committed', D: 'dropped', U: 'not over yet' };
 export const REFUSALS = {
   1: 'the header is short or out of range, or the session has over 16,384 bytes',
   2: 'unknown command byte',
   3: 'operands cut short',
   4: 'no such save, node or sheet',
   5: 'the save has begun and is not over, and its phase does not allow the command',
-  6: 'a first-run READ meets an X at the front of the sheet’s queue',
+  6: 'a first-run READ without an own copy meets an X at the front of the sheet’s queue',
   7: 'WRITE without a copy from this run',
   8: 'never occurs any more: a later run may open another sheet',
   9: 'TAKE: the node has taken every submitted save',
@@ -40,7 +41,12 @@ export function ranges(numbers) {
   }
   return parts.flatMap(p => p.length < 3 ? p.map(String) : [`${p[0]} to ${p.at(-1)}`]);
 }
-const saves = list => `save${list.length > 1 ? 's' : ''} ${and(ranges(list))}`;
+const named = (word, numbers) => `${word}${numbers.length > 1 ? 's' : ''} ${and(ranges(numbers))}`;
+const saves = list => named('save', list);
+/* The sheets of these entries, claims or copies. */
+const sheetsOf = list => named('sheet', list.map(x => x.sheet));
+/* A phrase for those that are alike, whose sheets it names together. */
+const byKind = (list, kind, phrase) => grouped(list, kind).map(([, own]) => phrase(own[0], sheetsOf(own)));
 
 /* An answer in two or three words, beside its line. */
 export function brief({ kind, value, number }) {
@@ -60,14 +66,14 @@ export const cause = (value, number) => `sheet ${causeSheet(value)}, ${RULES[num
 
 /* ---- Why a step was refused, by the state that it met */
 
-/* Where a save stands in the order, and how far the nodes are. */
-function standing(s, t) {
-  const nodes = s.taken.map((taken, n) => `node ${n} has taken ${plural(taken, 'place')}`);
-  return `save ${t} stands at place ${s.saves.get(t).place}, and ${and(nodes)}`;
+/* What a save that is submitted waits for: nodes with sheets of its claim that have not come to its place, and entries. */
+function pending(s, t, owners) {
+  const { place } = s.saves.get(t), claimed = s.copies.filter(c => c.save === t && c.claim), waiting = entriesOf(s, t).filter(e => !e.granted);
+  const behind = grouped(claimed, c => owners[c.sheet]).filter(([n]) => s.taken[n] <= place);
+  return [...behind.map(([n, own]) => `node ${n} has not taken save ${t} at place ${place} and owns ${sheetsOf(own)} of its claim`),
+    ...byKind(waiting, e => `${e.waitsFor}`, (e, on) => `save ${t} waits for ${saves(e.waitsFor)} on ${on}`)].join('; ');
 }
 
-const waiting = e => `save ${e.save} waits for ${saves(e.waitsFor)} on sheet ${e.sheet}`;
-const waits = (s, t) => entriesOf(s, t).filter(e => !e.granted).map(waiting);
 const ranged = header => `this session has nodes 0 to ${header.nodes - 1} and sheets 0 to ${header.owners.length - 1}, and saves go from 0 to 31`;
 
 export function reason(f, number, s, header) {
@@ -79,7 +85,7 @@ export function reason(f, number, s, header) {
     case 6: return `save ${queue(s, f.sheet)[0]?.save}’s X is at the front of sheet ${f.sheet}’s queue`;
     case 7: return `save ${t} has no copy of sheet ${f.sheet} from this run`;
     case 9: return s.places.length ? `node ${f.node} has taken all ${plural(s.places.length, 'place')} of the order` : 'no save has been submitted';
-    case 10: return waits(s, t).join('; ') || standing(s, t);
+    case 10: return pending(s, t, header.owners);
     case 11: return `save ${t} has no entry in the queues of node ${f.node}`;
     case 13: return `save ${t} never began`;
     case 14: return `save ${t} is ${name}`;
@@ -89,13 +95,14 @@ export function reason(f, number, s, header) {
 
 /* ---- One sentence a step */
 
-const entryWords = e => e.granted ? `holds ${e.mode} on sheet ${e.sheet}` : `waits on sheet ${e.sheet} for ${saves(e.waitsFor)}`;
+const entryWords = entries => byKind(entries, e => e.granted ? e.mode : `${e.waitsFor}`, (e, on) => e.granted ? `holds ${e.mode} on ${on}` : `waits on ${on} for ${saves(e.waitsFor)}`);
 const becameWide = (before, after, t) => !before.saves.get(t)?.wide && after.saves.get(t)?.wide ? ' With this its run is wide.' : '';
 
 /* Entries that waited before the step and are granted after it. */
 function gains(before, after) {
   const waited = (e, k) => queue(before, k).some(b => b.save === e.save && !b.granted);
-  return after.queues.flatMap((q, k) => q.filter(e => e.granted && waited(e, k)).map(e => `save ${e.save} now holds ${e.mode} on sheet ${k}`));
+  const gained = after.queues.flatMap((q, sheet) => q.filter(e => e.granted && waited(e, sheet)).map(e => ({ sheet, ...e })));
+  return byKind(gained, e => `${e.save} ${e.mode}`, (e, on) => `save ${e.save} now holds ${e.mode} on ${on}`);
 }
 
 function read({ value, f }, before, after, header) {
@@ -105,7 +112,7 @@ function read({ value, f }, before, after, header) {
 
 function submitted({ f }, before, after) {
   const t = f.save, was = before.saves.get(t), is = after.saves.get(t);
-  const claims = after.copies.filter(c => c.save === t && c.claim).map(c => `${c.claim} on sheet ${c.sheet}`);
+  const claims = byKind(after.copies.filter(c => c.save === t && c.claim), c => c.claim, (c, on) => `${c.claim} on ${on}`);
   if (is.phase === 'C') return `Save ${t} ends its ${phaseName(was)} and is committed.`;
   const again = was.wide ? ` once more, for its run was wide; place ${was.place} is a former place now` : '';
   const goes = [entriesOf(before, t).length && !entriesOf(after, t).length ? 'its entries go' : '', was.failed && !is.failed ? 'its failed mark is cleared' : ''];
@@ -124,7 +131,7 @@ function met({ value, number }, before) {
 function took(step, before, after, header) {
   const { kind, value, number, f } = step, t = takenSave(value), place = before.taken[f.node];
   if (!before.places[place].last) return `Node ${f.node} comes to place ${place}, a former place of save ${t}: it only moves on.`;
-  const here = entriesOf(after, t).filter(e => header.owners[e.sheet] === f.node).map(entryWords);
+  const here = entryWords(entriesOf(after, t).filter(e => header.owners[e.sheet] === f.node));
   const found = kind === VALID ? 'valid' : `invalid at sheet ${causeSheet(value)}, ${RULES[number]}: ${met(step, before)}`;
   return `Node ${f.node} takes save ${t} at place ${place} and finds it ${found}. It ${here.length ? and(here) : 'has no entry here'}.`;
 }
@@ -144,7 +151,7 @@ function applied({ f }, before, after) {
 }
 
 function dropped({ f }, before, after) {
-  const left = entriesOf(after, f.save).map(e => `sheet ${e.sheet}`), stay = left.length ? ` Its entries stay until APPLY, on ${and(left)}.` : '';
+  const left = entriesOf(after, f.save), stay = left.length ? ` Its entries stay until APPLY, on ${sheetsOf(left)}.` : '';
   return `Save ${f.save} is given up in its ${phaseName(before.saves.get(f.save))}: dropped.${stay}`;
 }
 

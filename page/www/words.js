@@ -69,7 +69,7 @@ export class Words {
       if (read.message) return;
       line.at = read.bytes.length;
       line.bytes = bytes;
-      read.bytes.push(...bytes);
+      for (const b of bytes) read.bytes.push(b); // one by one: a line may have more than a call takes
     } catch (e) {
       if (!(e instanceof Wrong)) throw e;
       const at = line ? read.lines.indexOf(line) + 1 : read.end + 1;
