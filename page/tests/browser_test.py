@@ -524,6 +524,22 @@ def stale():
     time.sleep(.9)
     chips = js("return [...document.querySelectorAll('.chip')].map(e => e.firstChild.textContent)")
     check('a late list of steps', 'TAKE 0' in chips and 'TAKE 1' in chips, chips)
+    js("const s = document.getElementById('slider'); s.value = 3; s.dispatchEvent(new Event('input')); document.querySelector('.chip').click()")
+    settle()
+    check('a step that was tried elsewhere is not put here', sent() == W and said().startswith('3 / 17'), said())
+    js("window.honest = window.fetch; window.fetch = async () => new Response('busy: come again', { status: 503 })")
+    step(8)
+    check('a host that is busy is said', text('alarm') == 'The host answers 503: busy: come again.' and not hidden('alarm') and not text('next'), text('alarm'))
+    js('window.fetch = window.honest')
+    step(9)
+    check('and not longer than it is', hidden('alarm') and 'TAKE 0' in text('next'), text('alarm'))
+    load(link(longest()))
+    js("window.blank = 0; new MutationObserver(() => { window.blank += document.getElementById('nodes').textContent.includes('no state'); }).observe(document.getElementById('nodes'), { childList: true })")
+    step(100)
+    check('the panels of a long session wait for theirs', js('return window.blank') == 0 and text('nodes').startswith('Node 0'))
+    js("window.fetch = async () => { throw new Error(); }")
+    step(90)
+    check('and are of no other step', text('nodes') == 'There is no state.' and not hidden('alarm'), text('nodes'))
 
 
 # ---- the hidden future

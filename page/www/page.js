@@ -121,6 +121,7 @@ function drawStep() {
   drawNotes(now, words.limit, veiled(), now.states ? now.states.at(-1) : now.at === now.steps.length ? before : null);
   drawBytes(now);
   drawLanes();
+  if (now.header.nodes && !now.states && !now.around) return; // the panels stay until their state comes
   drawNodes($('nodes'), view);
   drawOrder($('order'), view);
   drawCopies($('copies'), view);
@@ -146,12 +147,21 @@ async function askNext() {
   try {
     answer = await post('/state', prefix());
   } catch (e) {
-    if (mine === askedNext) fail(e);
+    if (mine === askedNext) unknown(e);
     return;
   }
   if (mine !== askedNext) return;
+  alarm('');
   takeNext(answer);
   busy(false);
+}
+
+/* Nothing of another step is left where this one is not known. */
+function unknown(e) {
+  now.around = {};
+  drawStep();
+  $('next').replaceChildren();
+  fail(e);
 }
 
 function takeNext(answer) {
@@ -161,8 +171,8 @@ function takeNext(answer) {
     drawStep();
   }
   if (veiled()) return;
-  const tried = answer.next.map(([own, kind, value, number]) => ({ bytes: own, f: words.fields(own), kind, value, number }));
-  drawNext($('next'), words, { tried, spent: answer.spent }, press);
+  const tried = answer.next.map(([own, kind, value, number]) => ({ bytes: own, f: words.fields(own), kind, value, number })), { at } = now;
+  drawNext($('next'), words, { tried, spent: answer.spent }, own => at === now.at && press(own));
 }
 
 function drawTransport(before, state) {
