@@ -25,7 +25,7 @@ WRONG = [
     ('the state behind the step told as before it', 'www/page.js', "{ before: states[refused ? at - 1 : Math.max(0, at - 1)],", '{ before: states[refused ? at - 1 : at],', BROWSER, 'walk'),
     ('the refused line off by one', 'www/editor.js', 'lineOf.forEach((line, i) => own[line]?.push(steps[i]));', 'lineOf.forEach((line, i) => own[line + (steps[i].kind === REFUSED ? 1 : 0)]?.push(steps[i]));', BROWSER, 'typing'),
     ('a late session that overwrites', 'www/page.js', '  if (mine !== asked) return;\n', '', BROWSER, 'stale'),
-    ('a late list of steps that overwrites', 'www/page.js', '  if (mine !== askedNext) return;\n  takeNext', '  takeNext', BROWSER, 'stale'),
+    ('a late list of steps that overwrites', 'www/page.js', "  if (mine !== askedNext) return;\n  alarm('');", "  alarm('');", BROWSER, 'stale'),
     ('an alarm that stays', 'www/page.js', "  alarm('');\n  takeNext(answer);", '  takeNext(answer);', BROWSER, 'stale'),
     ('a hidden answer left in the document', 'www/editor.js', "return hidden ? ['', ''] : [lineAnswer(own),", "return [lineAnswer(own),", BROWSER, 'veil'),
     ('hidden lanes left in the document', 'www/page.js', 'shown: veiled() ? at : steps.length, total', 'shown: steps.length, total', BROWSER, 'veil'),
