@@ -24,7 +24,7 @@ function entry(s, e) {
 function sheet(s, k, named) {
   const { content, counter } = s.sheets[k], entries = queue(s, k);
   const line = entries.length ? el('ol', 'queue', ...entries.map(e => entry(s, e))) : el('p', 'queue quiet', 'no entry');
-  const box = el('div', `sheet${named ? ' acts' : ''}`, el('span', 'sheetname', `Sheet ${k}`), ' ', el('span', 'content', String(content)), ' ',
+  const box = el('div', `sheet${named ? ' acts' : ''}`, el('span', 'sheetname', `Sheet ${k}`), sr(': content '), el('span', 'content', String(content)), ' ',
     el('span', 'counter', `counter ${counter}`), line);
   box.dataset.sheet = k;
   return box;
@@ -163,6 +163,7 @@ export function drawNext(box, words, { tried, spent }, press) {
 /* ---- The legend */
 
 export function drawLegend(box) {
-  const items = [...[...'FSL'].map(p => [p, PHASES[p]]), ['L wide', 'wide'], ...[...'CD'].map(p => [p, PHASES[p]]), ['holds', 'holds'], ['waits', 'waits'], ['square', 'by a node'], ['round', 'by a save']];
+  const phase = p => [p, PHASES[p]];
+  const items = [phase('F'), phase('S'), phase('L'), ['L wide', 'wide'], phase('C'), phase('D'), ['holds', 'holds'], ['waits', 'waits'], ['square', 'by a node'], ['round', 'by a save']];
   box.replaceChildren(...items.map(([look, name]) => el('li', '', el('i', `swatch ${look}`), name)));
 }

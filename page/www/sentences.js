@@ -2,10 +2,11 @@
 import { grouped } from './dom.js';
 import { copyOf, entriesOf, queue } from './state.js';
 
-export const NONE = 0, ACCEPTED = 1, CONTENT = 2, VALID = 3, INVALID = 4, COMMITTED = 5, AGAIN = 6, REFUSED = 7;
+/* Of cusphewa.h: the kinds of an answer, and the rules of a cause. */
+export const VALID = 3, INVALID = 4, REFUSED = 7;
+const ACCEPTED = 1, CONTENT = 2, COMMITTED = 5, AGAIN = 6, RULES = ['', 'X granted', 'X waiting', 'counter behind'];
 export const PHASES = { F: 'first run', S: 'submitted', L: 'later run', C: 'committed', D: 'dropped' };
-export const RULES = ['', 'X granted', 'X waiting', 'counter behind'];
-export const OUTCOMES = { C: 'committed', D: 'dropped', U: 'not over yet' };
+const OUTCOMES = { C: 'committed', D: 'dropped', U: 'not over yet' };
 export const REFUSALS = {
   1: 'the header is short or out of range, or the session has over 16,384 bytes',
   2: 'unknown command byte',
@@ -26,7 +27,7 @@ export const REFUSALS = {
 
 /* A TAKE's answer: its save; where it is invalid also the sheet and the rule of the cause. */
 export const takenSave = value => value % 65536;
-export const causeSheet = value => Math.floor(value / 65536);
+const causeSheet = value => Math.floor(value / 65536);
 
 export const phaseName = save => save.phase === 'L' ? `later run ${save.runs}${save.wide ? ', wide' : ''}` : PHASES[save.phase];
 const plural = (n, word) => `${n} ${word}${n === 1 ? '' : 's'}`;
