@@ -2,12 +2,12 @@
 import { el } from './dom.js';
 
 const GROUPS = {
-  w: 'The worked session', cause: 'Why a check failed', counter: 'Counters', counters: 'Counters', refusal: 'Refusals', unchanged: 'A save that saved nothing',
+  w: 'The worked session', cause: 'Why a check failed', counter: 'Counters', counters: 'Counters', refusal: 'Refusals', state: 'The state as text', unchanged: 'A save that saved nothing',
   wide: 'Later runs that open another sheet',
 };
 const FIRST = GROUPS.w, LAST = 'Further cases';
 
-const isKey = line => /^# (report|answer|shown|steps|the report of):/.test(line);
+const isKey = line => /^# (report|state|answer|shown|steps|the report of):/.test(line);
 
 /* Its first comment, its text without the key at its end, and the key's report. */
 function read([name, whole]) {
