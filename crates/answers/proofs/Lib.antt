@@ -1,3 +1,2 @@
 pub mod Pass
 pub mod Lists
-pub mod Views

@@ -1,17 +1,22 @@
--- Numbers copied one at a time, and a list that fits a room or not.
+-- Numbers copied one at a time, and the list as the host sees it.
 use Prim.Native.Nat.{ℕ, suc, _+_, _≤_, _<_}
 use mathlib.Core.Path.{_≡_, refl, sym, ap, _∙_}
-use mathlib.Core.List.{List, [], _∷_, _++_}
-use native.Mathlib.Nat.{zero-add}
+use mathlib.Core.List.{List, [], _∷_, _++_, map}
 use native.Mathlib.Numerals.{add-one}
 use native.Mathlib.Omega.{arith}
-use borrow.Author.Tests.{lt-ltb, le-ltb}
-use lib.ListN.{length, getD, take, drop, set}
+use borrow.Author.Tests.{le-ltb}
+use lib.ListN.{length, getD, take, drop, set, length-map}
 use lib.Seq.{length-take-le, take-suc, drop-cons, append-snoc, set-at}
 use Rattle.rules.specs.Writing as lists
 use Rattle.text.specs.Wrote.{Wrote}
 use Rattle.clipped.proofs.Laws.{front-of}
-use Rattle.answers.specs.Meaning.{answers-into}
+use Rattle.rules.specs.Answers.{session-replies}
+use Rattle.wire.specs.declared.Opened.the-variants.{Header, Bad}
+use Rattle.wire.specs.Meaning.{opened}
+use Rattle.wire.proofs.Opening.{opening, unopened}
+use Rattle.codes.specs.Codes.{coded, answer-code, told-call, fitted}
+use Rattle.codes.proofs.Laws.{length-is}
+use Rattle.answers.specs.Meaning.{answers-call}
 
 pub one-more : (list room : List ℕ) (i : ℕ) → i < length list → i < length room → set (take i list ++ drop i room) i (getD list i 0) ≡ take (i + 1) list ++ drop (i + 1) room
 one-more list room i h k =
@@ -19,12 +24,15 @@ one-more list room i h k =
     (sym (append-snoc (take i list) (getD list i 0) (drop (suc i) room)))
 
 -- a list that was made aside, as n says how long it is
-module _ {l m x : List ℕ} {n u : ℕ} (w : Wrote l 0 x u n m) where
-  length-is : n ≡ length x
-  length-is = w .ends ∙ zero-add (length x)
+pub all-told : {l m x : List ℕ} {n u : ℕ} → Wrote l 0 x u n m → (room : List ℕ) {after : List ℕ} → u ≤ length l → n ≤ length room → after ≡ take n m ++ drop n room → record { outcome = lists.wrote n; room = after } ≡ fitted x room
+all-told {x = x} w room k h e = rw (le-ltb (length room) (length x) (omega (arith, length-is w, h)), e, front-of w k, length-is w)
 
-  pub too-many : (room : List ℕ) → length room < n → record { outcome = lists.refuse-with (lists.at n 15); room = room } ≡ answers-into x room
-  too-many room h = rw (lt-ltb (length room) (length x) (omega (arith, length-is, h)), length-is)
+-- ---- A session that opens, and one that earns refusal 1
 
-  pub all-told : (room : List ℕ) {after : List ℕ} → u ≤ length l → n ≤ length room → after ≡ take n m ++ drop n room → record { outcome = lists.wrote n; room = after } ≡ answers-into x room
-  all-told room k h e = rw (le-ltb (length room) (length x) (omega (arith, length-is, h)), e, front-of w k, length-is)
+pub answers-of : (b room : List ℕ) (nodes sheets : ℕ) → Header nodes sheets ≡ opened b → fitted (map answer-code (session-replies b)) room ≡ answers-call b room
+unfolding answers-call
+answers-of b room n m e = let o = opening b n m e in rw (o .opened-well, length-map (session-replies b) answer-code)
+
+pub no-answers : (b : List ℕ) → Bad ≡ opened b → {room : List ℕ} {code : ℕ} → code ≡ coded 7 0 1 → record { code = code; room = room } ≡ told-call (answers-call b room)
+unfolding answers-call
+no-answers b e k = rw (k, unopened b e)

@@ -1,5 +1,5 @@
--- What the call's answers mean in the rules.
-use Prim.Native.Nat.{ℕ, _≤_}
+-- The call that lists every command's answer.
+use Prim.Native.Nat.{ℕ}
 use mathlib.Core.Bool.{Bool, true, false}
 use mathlib.Core.List.{List, map}
 use lib.ListN.{length}
@@ -7,24 +7,10 @@ use Rattle.rules.specs.Bytes.{opens}
 use Rattle.rules.specs.Writing as lists
 use Rattle.rules.specs.Answers.{session-replies}
 use Rattle.codes.specs.Codes.{answer-code}
-use Rattle.answers.specs.declared.Told.{Told}
-use Rattle.answers.specs.declared.Told.the-variants.{Answers, TooShort}
 
 -- a command has two bytes at least, and a session 16,384
 abbrev pub most-answers : ℕ
 most-answers = 8192
-
-abbrev pub outcome-of : Told → lists.Outcome
-outcome-of (Answers n) = lists.wrote n
-outcome-of (TooShort n) = lists.refuse-with (lists.at n 15)
-
--- numbers at the front of a room, or 15 where they do not fit
-abbrev pub answers-into : (codes room : List ℕ) → lists.Call
-answers-into codes room = lists.put (length codes) (lists.wrote (length codes)) codes room
-
-abbrev pub Small : Told → Type 0
-Small (Answers n) = n ≤ most-answers
-Small (TooShort n) = n ≤ most-answers
 
 -- ---- The call
 

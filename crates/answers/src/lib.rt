@@ -10,19 +10,14 @@ ghost use Rattle.wire.specs.declared.Opened.the-variants.{Header};
 ghost use Rattle.state.specs.Slices.{slices};
 ghost use Rattle.session.specs.Meaning.{reply-of};
 ghost use Rattle.session.specs.Looping.{Begins};
-ghost use Rattle.codes.specs.Codes.{answer-code, NearReply, told-call};
-ghost use Rattle.answers.specs.Meaning.{most-answers, outcome-of, answers-into, answers-call, Small};
+ghost use Rattle.codes.specs.Codes.{answer-code, NearReply, told-call, outcome-of, fitted, Small};
+ghost use Rattle.answers.specs.Meaning.{most-answers, answers-call};
+use codes::Placed;
 use session::Reply;
 use state::Session;
 use tally::Tally;
 use wire::Next;
 use wire::Opened;
-
-// How many answers were written, or how many the room must hold, where the one that was lent is too short.
-pub enum Told {
-    Answers(usize),
-    TooShort(usize),
-}
 
 // One answer more behind the first `count`.
 fn tell(list: &mut [u64], count: usize, r: Reply) -> usize
@@ -85,10 +80,10 @@ fn copy(room: &mut [u64], list: &[u64], n: usize)
 }
 
 // The answers of a session with this header, if the room holds them. They are listed aside first, so that nothing is written where it does not.
-pub fn tell_all(session: &[u8], room: &mut [u64], nodes: u8, sheets: u16) -> Told
+pub fn tell_all(session: &[u8], room: &mut [u64], nodes: u8, sheets: u16) -> Placed
     requires { ⌜ Header nodes sheets ≡ opened (now session) ⌝ }
     ensures { λ r. ⌜
-        record { outcome = outcome-of r; room = now (room .exit) } ≡ answers-into (map answer-code (session-replies (now (session .entry)))) (now (room .entry))
+        record { outcome = outcome-of r; room = now (room .exit) } ≡ fitted (map answer-code (session-replies (now (session .entry)))) (now (room .entry))
         ⌝ }
     ensures small { λ r. ⌜ Small r ⌝ }
 {
@@ -112,22 +107,10 @@ pub fn tell_all(session: &[u8], room: &mut [u64], nodes: u8, sheets: u16) -> Tol
         m,
     );
     if room.len() < n {
-        return Told::TooShort(n);
+        return Placed::TooShort(n);
     }
     copy(room, &list, n);
-    Told::Answers(n)
-}
-
-// The answers of a session with this header, as a number for the host.
-fn answers_code(session: &[u8], list: &mut [u64], nodes: u8, sheets: u16) -> u64
-    requires { ⌜ Header nodes sheets ≡ opened (now session) ⌝ }
-    ensures { λ r. ⌜ record { code = r; room = now (list .exit) } ≡ told-call (answers-call (now (session .entry)) (now (list .entry))) ⌝ }
-{
-    let told = tell_all(session, list, nodes, sheets);
-    match told {
-        Told::Answers(n) => codes::code(8, n as u64, 0),
-        Told::TooShort(n) => codes::code(7, n as u64, 15),
-    }
+    Placed::Whole(n)
 }
 
 // Lists every command's answer, as cusphewa_answer's numbers, up to the first refusal: how many there are, or a refusal, which writes nothing.
@@ -139,6 +122,6 @@ pub extern "C" fn cusphewa_answers(session: &[u8], list: &mut [u64]) -> u64
     let header = wire::read_header(session);
     match header {
         Opened::Bad => codes::code(7, 0, 1),
-        Opened::Header(nodes, sheets) => answers_code(session, list, nodes, sheets),
+        Opened::Header(nodes, sheets) => codes::placed_code(tell_all(session, list, nodes, sheets)),
     }
 }

@@ -1,13 +1,19 @@
--- A reply's number, by the case that the match told.
-use Prim.Native.Nat.{ℕ, _≤_, min}
+-- Numbers by the case that the match told, and what fits a room or not.
+use Prim.Native.Nat.{ℕ, _≤_, _<_, min}
 use mathlib.Core.Path.{_≡_, ap, sym, _∙_}
-use native.Mathlib.Nat.{min-eq-left}
+use mathlib.Core.List.{List}
+use native.Mathlib.Nat.{zero-add, min-eq-left}
+use borrow.Author.Tests.{lt-ltb}
+use lib.ListN.{length}
 use native.Mathlib.Omega.{arith}
 use Rattle.rules.specs.Writing as lists
+use Rattle.text.specs.Wrote.{Wrote}
 use Rattle.session.specs.declared.Reply.{Reply}
 use Rattle.session.specs.declared.Reply.the-variants as reply
 use Rattle.session.specs.Meaning.{reply-of}
-use Rattle.codes.specs.Codes.{coded, answer-code, outcome-code, NearReply}
+use Rattle.codes.specs.declared.Placed.{Placed}
+use Rattle.codes.specs.declared.Placed.the-variants.{Whole, TooShort}
+use Rattle.codes.specs.Codes.{coded, answer-code, NearReply, outcome-code, told-call, outcome-of, fitted, Small}
 
 pub near-refused : (r : Reply) (p c : ℕ) → r ≡ reply.Refused p c → NearReply r → p ≤ 16384
 near-refused r p c q w = rw q at w
@@ -15,6 +21,33 @@ near-refused r p c q w = rw q at w
 pub told : (r x : Reply) {n : ℕ} → r ≡ x → n ≡ answer-code (reply-of x) → n ≡ answer-code (reply-of r)
 told r x q e = e ∙ ap (λ y. answer-code (reply-of y)) (sym q)
 
+-- ---- Calls that write into a room
+
 -- a size that is told whole
-pub needs-so : (n : ℕ) → n ≤ 524288 → coded 7 n 15 ≡ outcome-code (lists.refuse-with (lists.at n 15))
+needs-so : (n : ℕ) → n ≤ 524288 → coded 7 n 15 ≡ outcome-code (lists.refuse-with (lists.at n 15))
 needs-so n h = let e : min n 4294967295 ≡ n = min-eq-left (omega arith) in rw e
+
+module _ (p : Placed) (s : Small p) {n : ℕ} where
+  pub whole-small : p ≡ Whole n → n ≤ 524288
+  whole-small q = rw q at s
+
+  pub short-small : p ≡ TooShort n → n ≤ 524288
+  short-small q = rw q at s
+
+  pub whole-told : {k : ℕ} → p ≡ Whole n → k ≡ coded 8 n 0 → k ≡ outcome-code (outcome-of p)
+  whole-told q e = rw q e
+
+  pub short-told : {k : ℕ} → p ≡ TooShort n → k ≡ coded 7 n 15 → k ≡ outcome-code (outcome-of p)
+  short-told q e = rw q (e ∙ needs-so n (short-small q))
+
+-- the call as the host sees it
+pub placed-told : {room : List ℕ} {c : lists.Call} {k : ℕ} (p : Placed) → record { outcome = outcome-of p; room = room } ≡ c → k ≡ outcome-code (outcome-of p) → record { code = k; room = room } ≡ told-call c
+placed-told p e q = rw q (ap told-call e)
+
+-- what was written aside, or into no room, tells the length
+module _ {l m x : List ℕ} {n u : ℕ} (w : Wrote l 0 x u n m) where
+  pub length-is : n ≡ length x
+  length-is = w .ends ∙ zero-add (length x)
+
+  pub too-short : {room : List ℕ} → length room < n → record { outcome = lists.refuse-with (lists.at n 15); room = room } ≡ fitted x room
+  too-short {room} h = rw (lt-ltb (length room) (length x) (omega (arith, length-is, h)), length-is)

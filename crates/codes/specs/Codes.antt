@@ -1,12 +1,16 @@
 -- Answers as numbers, for the host.
 use Prim.Native.Nat.{ℕ, _+_, _*_, _≤_, min}
 use mathlib.Core.List.{List}
+use lib.ListN.{length}
+use Rattle.rules.specs.Sizes.{max-state}
 use Rattle.rules.specs.Steps.{Rule, x-granted, x-waiting, counter-behind, Verdict, valid, invalid, accepted, content-is, took, commits, second-run}
 use Rattle.rules.specs.Calls as calls
 use Rattle.rules.specs.Writing as lists
 use Rattle.rules.specs.Calls.{no-command, answers, refusal}
 use Rattle.session.specs.declared.Reply.{Reply}
 use Rattle.session.specs.declared.Reply.the-variants as reply
+use Rattle.codes.specs.declared.Placed.{Placed}
+use Rattle.codes.specs.declared.Placed.the-variants.{Whole, TooShort}
 
 -- kind * 2^48 + value * 2^8 + number
 abbrev pub coded : (kind value number : ℕ) → ℕ
@@ -59,3 +63,16 @@ pub record Told : Type 0 where
 -- a call as the host sees it
 abbrev pub told-call : lists.Call → Told
 told-call c = record { code = outcome-code (c .outcome); room = c .room }
+
+abbrev pub outcome-of : Placed → lists.Outcome
+outcome-of (Whole n) = lists.wrote n
+outcome-of (TooShort n) = lists.refuse-with (lists.at n 15)
+
+-- bytes or numbers at the front of a room, or 15 where they do not fit
+abbrev pub fitted : (new room : List ℕ) → lists.Call
+fitted new room = lists.put (length new) (lists.wrote (length new)) new room
+
+-- no list and no state's text is longer
+abbrev pub Small : Placed → Type 0
+Small (Whole n) = n ≤ max-state
+Small (TooShort n) = n ≤ max-state

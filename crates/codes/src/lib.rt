@@ -3,7 +3,7 @@ ghost use mathlib.Core.Path.{_≡_};
 ghost use Prim.Native.Nat.{_<_};
 ghost use Rattle.session.specs.Meaning.{reply-of};
 ghost use Rattle.state.specs.View.{rule-of, verdict-of};
-ghost use Rattle.codes.specs.Codes.{coded, rule-code, verdict-code, answer-code, NearReply};
+ghost use Rattle.codes.specs.Codes.{coded, rule-code, verdict-code, answer-code, NearReply, outcome-code, outcome-of, Small};
 use session::Reply;
 use state::Rule;
 use state::Verdict;
@@ -54,5 +54,22 @@ pub fn reply_code(r: Reply) -> u64
         Reply::Commits => code(5, 0, 0),
         Reply::SecondRun => code(6, 0, 0),
         Reply::Refused(p, n) => code(7, p as u64, n),
+    }
+}
+
+// How many bytes or numbers were written into a room, or how many it must hold, where it is too short.
+pub enum Placed {
+    Whole(usize),
+    TooShort(usize),
+}
+
+// The answer of a call that writes into a room.
+pub fn placed_code(p: Placed) -> u64
+    requires { ⌜ Small p ⌝ }
+    ensures { λ n. ⌜ n ≡ outcome-code (outcome-of p) ⌝ }
+{
+    match p {
+        Placed::Whole(n) => code(8, n as u64, 0),
+        Placed::TooShort(n) => code(7, n as u64, 15),
     }
 }

@@ -1,11 +1,10 @@
 -- A text in a room that it fits or not, and the state of a walk.
-use Prim.Native.Nat.{ℕ, _+_, _*_, _≤_, _<_}
+use Prim.Native.Nat.{ℕ, _+_, _*_, _≤_}
 use mathlib.Core.Path.{_≡_, refl, sym, ap, _∙_}
-use mathlib.Core.Bool.{true}
+use mathlib.Core.Bool.{true, true≢false}
 use mathlib.Core.List.{List, []}
-use native.Mathlib.Nat.{zero-add}
 use native.Mathlib.Omega.{arith}
-use borrow.Author.Tests.{lt-ltb, le-ltb}
+use borrow.Author.Tests.{le-ltb}
 use lib.ListN.{length}
 use Rattle.rules.specs.Bytes.{opens}
 use Rattle.rules.specs.Report.{Filled}
@@ -20,18 +19,14 @@ use Rattle.tally.specs.Figures.{figures}
 use Rattle.session.specs.declared.Walked.{Walked}
 use Rattle.session.specs.Carried.{Carried}
 use Rattle.showing.specs.Shows.{Shows, text-room}
-use Rattle.states.specs.Meaning.{fitted, ShortText}
+use Rattle.wire.specs.declared.Opened.the-variants.{Bad}
+use Rattle.wire.specs.Meaning.{opened}
+use Rattle.wire.proofs.Opening.{unopened}
+use Rattle.codes.specs.Codes.{coded, told-call, fitted}
+use Rattle.codes.proofs.Laws.{length-is}
+use Rattle.states.specs.Short.{ShortText}
 
 -- ---- The room
-
--- lent no room, the writer tells the length
-length-is : {l m x : List ℕ} {n u : ℕ} → Wrote l 0 x u n m → n ≡ length x
-length-is {x = x} w = w .ends ∙ zero-add (length x)
-
-pub too-short : {l m x room : List ℕ} {n u : ℕ} → Wrote l 0 x u n m → length room < n → record { outcome = lists.refuse-with (lists.at n 15); room = room } ≡ fitted x room
-too-short {x = x} {room = room} {n = n} w h =
-    let e = length-is w in
-    rw (lt-ltb (length room) (length x) (omega (arith, e, h)), e)
 
 pub fits : {l m x room after : List ℕ} {n u v e : ℕ} → Wrote l 0 x u n m → n ≤ length room → Wrote room 0 x v e after → record { outcome = lists.wrote e; room = after } ≡ fitted x room
 fits {x = x} {room = room} w h p =
@@ -72,3 +67,13 @@ module _ {b : List ℕ} (o : opens b ≡ true) {m : ℕ} {x : Slices} {r : Walke
   pub short-so : length (state-text (shown m x (figures (r .tally)))) ≤ 524288 → ShortText b
   unfolding final
   short-so h _ = rw (← ap (λ (f : Final). f .state) (v .same)) at h
+
+-- ---- A session that earns refusal 1
+
+module _ (b : List ℕ) (e : Bad ≡ opened b) where
+  pub no-state : {room : List ℕ} {code : ℕ} → code ≡ coded 7 0 1 → record { code = code; room = room } ≡ told-call (state-call b room)
+  unfolding state-call
+  no-state k = rw (k, unopened b e)
+
+  pub no-text : ShortText b
+  no-text o = absurd (true≢false (sym o ∙ unopened b e))

@@ -5,23 +5,18 @@ ghost use Prim.Native.Nat.{_≤_};
 ghost use lib.ListN.{length};
 ghost use Rattle.rules.specs.Sizes.{max-state};
 ghost use Rattle.rules.specs.Showing.{GrantedAlone, state-text, state-call};
-ghost use Rattle.codes.specs.Codes.{told-call};
+ghost use Rattle.codes.specs.Codes.{told-call, outcome-of, fitted, Small};
 ghost use Rattle.wire.specs.Meaning.{opened};
 ghost use Rattle.wire.specs.declared.Opened.the-variants.{Header};
 ghost use Rattle.state.specs.Slices.{slices};
 ghost use Rattle.state.specs.Lent.{shown};
 ghost use Rattle.tally.specs.Figures.{figures};
 ghost use Rattle.showing.specs.Shows.{Shows};
-ghost use Rattle.states.specs.Meaning.{outcome-of, fitted, ShortText, Small};
+ghost use Rattle.states.specs.Short.{ShortText};
+use codes::Placed;
 use state::Session;
 use tally::Tally;
 use wire::Opened;
-
-// How long the text is that was written, or how long a room it needs, where the one that was lent is too short.
-pub enum Shown {
-    Text(usize),
-    TooShort(usize),
-}
 
 // No state's text is longer.
 const MOST: usize = 524288;
@@ -36,7 +31,7 @@ fn fill(
     w: &[u32],
     m: usize,
     tally: Tally,
-) -> Shown
+) -> Placed
     requires { ⌜ Shows m (now b) (now value) (now seen) (now w) ⌝ }
     ensures { λ r. ⌜
         record { outcome = outcome-of r; room = now (room .exit) }
@@ -49,19 +44,19 @@ fn fill(
 {
     if MOST <= room.len() {
         let e = showing::text(room, b, value, seen, w, m, tally);
-        return Shown::Text(e);
+        return Placed::Whole(e);
     }
     let mut none = [0u8; 0];
     let n = showing::text(&mut none, b, value, seen, w, m, tally);
     if room.len() < n {
-        return Shown::TooShort(n);
+        return Placed::TooShort(n);
     }
     let e = showing::text(room, b, value, seen, w, m, tally);
-    Shown::Text(e)
+    Placed::Whole(e)
 }
 
 // Carries a session with this header through, and writes the state that it leads to.
-pub fn show(session: &[u8], room: &mut [u8], nodes: u8, sheets: u16) -> Shown
+pub fn show(session: &[u8], room: &mut [u8], nodes: u8, sheets: u16) -> Placed
     requires { ⌜ Header nodes sheets ≡ opened (now session) ⌝ }
     ensures { λ r. ⌜ record { outcome = outcome-of r; room = now (room .exit) } ≡ state-call (now (session .entry)) (now (room .entry)) ⌝ }
     ensures small { λ r. ⌜ Small r ⌝ }
@@ -88,19 +83,6 @@ pub fn show(session: &[u8], room: &mut [u8], nodes: u8, sheets: u16) -> Shown
     fill(room, &b, &value, &seen, &w, m, t)
 }
 
-// The state that a session with this header leads to, as a number for the host.
-fn state_code(session: &[u8], room: &mut [u8], nodes: u8, sheets: u16) -> u64
-    requires { ⌜ Header nodes sheets ≡ opened (now session) ⌝ }
-    ensures { λ r. ⌜ record { code = r; room = now (room .exit) } ≡ told-call (state-call (now (session .entry)) (now (room .entry))) ⌝ }
-    ensures short { λ _. ⌜ ShortText (now (session .entry)) ⌝ }
-{
-    let shown = show(session, room, nodes, sheets);
-    match shown {
-        Shown::Text(n) => codes::code(8, n as u64, 0),
-        Shown::TooShort(n) => codes::code(7, n as u64, 15),
-    }
-}
-
 // Writes the state after the session's accepted commands, as text: how many bytes it has, or a refusal, which writes nothing.
 #[no_mangle]
 pub extern "C" fn cusphewa_state(session: &[u8], room: &mut [u8]) -> u64
@@ -111,6 +93,6 @@ pub extern "C" fn cusphewa_state(session: &[u8], room: &mut [u8]) -> u64
     let header = wire::read_header(session);
     match header {
         Opened::Bad => codes::code(7, 0, 1),
-        Opened::Header(nodes, sheets) => state_code(session, room, nodes, sheets),
+        Opened::Header(nodes, sheets) => codes::placed_code(show(session, room, nodes, sheets)),
     }
 }

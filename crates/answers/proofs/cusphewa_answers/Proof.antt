@@ -1,7 +1,8 @@
 -- Refusal 1, or the list of the pass; that it is the answer call's on each prefix is the rules' theorem.
 use mathlib.Core.Path.{sym, _∙_}
 use Rattle.rules.proofs.Answers.{each-prefix}
-use Rattle.answers.proofs.Views.{no-answers}
+use Rattle.codes.proofs.Laws.{placed-told}
+use Rattle.answers.proofs.Lists.{answers-of, no-answers}
 use borrow.Author.Needs.{needs}
 use Rattle.answers.proofs.cusphewa_answers.Statement.{statement}
 use Rattle.answers.proofs.cusphewa_answers.Tie as tie
@@ -18,8 +19,11 @@ code-requires c κs = search needs
 enum-known-header : tie.Need-enum-known-header
 enum-known-header c = search needs
 
-answers-code-requires : tie.Need-answers-code-requires
-answers-code-requires c κs = sym (c .before .before .header .given .1) ∙ c .before .before .before .before .read-header .ensures
+tell-all-requires : tie.Need-tell-all-requires
+tell-all-requires c κs = sym (c .before .before .header .given .1) ∙ c .before .before .before .before .read-header .ensures
+
+placed-code-requires : tie.Need-placed-code-requires
+placed-code-requires c κs = c .before .before .tell-all .ensures .1
 
 returns : tie.Need-returns
 returns c = (no-answers _ (sym (c .before .enum-told .given .1) ∙ c .before .before .before .read-header .ensures) (c .code .ensures), each-prefix (c .before .before .before .before .before .before .args .session .now))
@@ -28,7 +32,9 @@ same-length : tie.Need-same-length
 same-length c = search needs
 
 returns-2 : tie.Need-returns-2
-returns-2 c = (c .before .before .answers-code .ensures, each-prefix (c .before .before .before .before .before .before .before .before .before .before .args .session .now))
+returns-2 c =
+    let e = sym (c .before .before .before .before .before .before .header .given .1) ∙ c .before .before .before .before .before .before .before .before .read-header .ensures in
+    (placed-told (c .before .before .before .tell-all .result) (c .before .before .before .tell-all .ensures .0 ∙ answers-of (c .before .before .before .before .before .before .before .before .before .before .before .args .session .now) (c .before .before .before .before .before .before .before .before .before .before .before .args .list .now) _ _ e) (c .placed-code .ensures), each-prefix (c .before .before .before .before .before .before .before .before .before .before .before .args .session .now))
 
 pub cusphewa-answers-spec : {M : Type 1} → statement M
 cusphewa-answers-spec =
@@ -38,7 +44,8 @@ cusphewa-answers-spec =
     enum-told
     code-requires
     enum-known-header
-    answers-code-requires
+    tell-all-requires
+    placed-code-requires
     returns
     same-length
     returns-2)

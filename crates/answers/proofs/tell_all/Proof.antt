@@ -8,7 +8,8 @@ use Rattle.state.proofs.Blank.{blank-zeros}
 use Rattle.text.proofs.Writing.{wrote-end, wrote-length}
 use Rattle.wire.proofs.Opening.{opening, header-within, few-sheets, owners-part, owners-many}
 use Rattle.session.proofs.Needs.{begins}
-use Rattle.answers.proofs.Lists.{too-many, all-told}
+use Rattle.codes.proofs.Laws.{too-short}
+use Rattle.answers.proofs.Lists.{all-told}
 use borrow.Author.Needs.{needs}
 use Rattle.answers.proofs.tell_all.Statement.{statement}
 use Rattle.answers.proofs.tell_all.Tie as tie
@@ -70,7 +71,7 @@ walk-requires c κs =
     (begins (c .before .before .before .before .before .before .before .before .before .before .before .before .before .before .before .before .args .session .now) (c .before .before .before .before .before .before .before .before .before .before .before .before .before .before .before .before .args .nodes) (c .before .before .before .before .before .before .before .before .before .before .before .before .before .before .before .before .args .sheets) o (owners-part o) (c .before .before .before .before .before .before .before .fresh .ensures), omega arith)
 
 returns : tie.Need-returns
-returns c = (too-many (c .before .before .before .before .before .before .before .walk .ensures) _ (c .if1 .taken), omega (arith, wrote-end (c .before .before .before .before .before .before .before .walk .ensures)))
+returns c = (too-short (c .before .before .before .before .before .before .before .walk .ensures) (c .if1 .taken), omega (arith, wrote-end (c .before .before .before .before .before .before .before .walk .ensures)))
 
 slice-aggregate-copy : tie.Need-slice-aggregate-copy
 slice-aggregate-copy c = search needs

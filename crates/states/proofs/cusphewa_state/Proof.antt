@@ -1,7 +1,8 @@
 -- Refusal 1, or the state of the run; what is said of entries is the rules' theorem.
 use mathlib.Core.Path.{sym, _∙_}
 use Rattle.rules.proofs.Showing.{granted-alone}
-use Rattle.states.proofs.Views.{no-state, no-text}
+use Rattle.codes.proofs.Laws.{placed-told}
+use Rattle.states.proofs.Laws.{no-state, no-text}
 use borrow.Author.Needs.{needs}
 use Rattle.states.proofs.cusphewa_state.Statement.{statement}
 use Rattle.states.proofs.cusphewa_state.Tie as tie
@@ -18,8 +19,11 @@ code-requires c κs = search needs
 enum-known-header : tie.Need-enum-known-header
 enum-known-header c = search needs
 
-state-code-requires : tie.Need-state-code-requires
-state-code-requires c κs = sym (c .before .before .header .given .1) ∙ c .before .before .before .before .read-header .ensures
+show-requires : tie.Need-show-requires
+show-requires c κs = sym (c .before .before .header .given .1) ∙ c .before .before .before .before .read-header .ensures
+
+placed-code-requires : tie.Need-placed-code-requires
+placed-code-requires c κs = c .before .before .show .ensures .1 .0
 
 returns : tie.Need-returns
 returns c =
@@ -30,7 +34,7 @@ same-length : tie.Need-same-length
 same-length c = search needs
 
 returns-2 : tie.Need-returns-2
-returns-2 c = (c .before .before .state-code .ensures .0, (c .before .before .state-code .ensures .1, granted-alone))
+returns-2 c = (placed-told (c .before .before .before .show .result) (c .before .before .before .show .ensures .0) (c .placed-code .ensures), (c .before .before .before .show .ensures .1 .1, granted-alone))
 
 pub cusphewa-state-spec : {M : Type 1} → statement M
 cusphewa-state-spec =
@@ -40,7 +44,8 @@ cusphewa-state-spec =
     enum-told
     code-requires
     enum-known-header
-    state-code-requires
+    show-requires
+    placed-code-requires
     returns
     same-length
     returns-2)

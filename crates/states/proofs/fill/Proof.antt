@@ -1,5 +1,6 @@
 -- Any text fits the most room; else the length first, then the text.
-use Rattle.states.proofs.Laws.{too-short, fits, fits-all, room-enough, text-short}
+use Rattle.codes.proofs.Laws.{too-short}
+use Rattle.states.proofs.Laws.{fits, fits-all, room-enough, text-short}
 use borrow.Author.Needs.{needs}
 use Rattle.states.proofs.fill.Statement.{statement}
 use Rattle.states.proofs.fill.Tie as tie
