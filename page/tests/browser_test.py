@@ -173,10 +173,10 @@ def many():
     write(FORMER)
     press(Keys.END)
     check('a verdict stays what it was', js("return [...document.querySelectorAll('#order td')].map(e => e.title).filter(Boolean)") == ['found valid', 'found invalid: sheet 0, X granted', 'found valid', 'found valid', 'found valid'])
-    check('the last place is not taken', said().endswith('Refusal 10: node 1 has not taken save 1 at place 2 and owns sheet 1 of its claim.'), said())
+    check('the last place is not taken', said().endswith('Refusal 10: node 1 has no entry of save 1 yet at sheet 1 of its claim.'), said())
     write(APART)
     press(Keys.END)
-    check('both of 10', said().endswith('Refusal 10: node 1 has not taken save 1 at place 1 and owns sheet 3 of its claim; save 1 waits for save 0 on sheets 0 to 2.'), said())
+    check('both of 10', said().endswith('Refusal 10: node 1 has no entry of save 1 yet at sheet 3 of its claim; save 1 waits for save 0 on sheets 0 to 2.'), said())
     press(Keys.ARROW_LEFT)
     check('sheets together', said().endswith('It waits on sheets 0 to 2 for save 0.'), said())
     step(19)
@@ -251,7 +251,7 @@ def typing():
                         ('BEGIN 0\nREAD 0 2\n', '2 / 2 READ 0 2 Refusal 4: this session has nodes 0 to 1 and sheets 0 to 1, and saves go from 0 to 31.'), ('SUBMIT 3\n', '1 / 1 SUBMIT 3 Refusal 13: save 3 never began.'),
                         ('BEGIN 0\nGIVE UP 0\nREAD 0 0\n', '3 / 3 READ 0 0 Refusal 14: save 0 is dropped.'), ('BEGIN 0\nWRITE 0 0 5\n', '2 / 2 WRITE 0 0 5 Refusal 7: save 0 has no copy of sheet 0 from this run.'),
                         ('TAKE 0\n', '1 / 1 TAKE 0 Refusal 9: no save has been submitted.'), ('BEGIN 0\nSUBMIT 0\nTAKE 0\nTAKE 0\n', '4 / 4 TAKE 0 Refusal 9: node 0 has taken all 1 place of the order.'),
-                        ('BEGIN 0\nREAD 0 1\nSUBMIT 0\nDECIDE 0\n', '4 / 4 DECIDE 0 Refusal 10: node 1 has not taken save 0 at place 0 and owns sheet 1 of its claim.'), ('BEGIN 0\nSUBMIT 0\nDECIDE 0\nAPPLY 0 0\n', '4 / 4 APPLY 0 0 Refusal 11: save 0 has no entry in the queues of node 0.'),
+                        ('BEGIN 0\nREAD 0 1\nSUBMIT 0\nDECIDE 0\n', '4 / 4 DECIDE 0 Refusal 10: node 1 has no entry of save 0 yet at sheet 1 of its claim.'), ('BEGIN 0\nSUBMIT 0\nDECIDE 0\nAPPLY 0 0\n', '4 / 4 APPLY 0 0 Refusal 11: save 0 has no entry in the queues of node 0.'),
                         ('BEGIN 0\nREAD 0 0\nWRITE 0 0 1\nSUBMIT 0\nTAKE 0\nBEGIN 1\nREAD 1 0\n', '7 / 7 READ 1 0 Refusal 6: save 0’s X is at the front of sheet 0’s queue.')]:
         write(head + words)
         press(Keys.END)

@@ -67,11 +67,10 @@ export const cause = (value, number) => `sheet ${causeSheet(value)}, ${RULES[num
 
 /* ---- Why a step was refused, by the state that it met */
 
-/* What a save that is submitted waits for: nodes with sheets of its claim that have not come to its place, and entries. */
+/* What there is not yet of a save that is submitted: entries at sheets of its claim, and entries that are granted. */
 function pending(s, t, owners) {
-  const { place } = s.saves.get(t), claimed = s.copies.filter(c => c.save === t && c.claim), waiting = entriesOf(s, t).filter(e => !e.granted);
-  const behind = grouped(claimed, c => owners[c.sheet]).filter(([n]) => s.taken[n] <= place);
-  return [...behind.map(([n, own]) => `node ${n} has not taken save ${t} at place ${place} and owns ${sheetsOf(own)} of its claim`),
+  const missing = s.copies.filter(c => c.save === t && c.claim && !queue(s, c.sheet).some(e => e.save === t)), waiting = entriesOf(s, t).filter(e => !e.granted);
+  return [...grouped(missing, c => owners[c.sheet]).map(([n, own]) => `node ${n} has no entry of save ${t} yet at ${sheetsOf(own)} of its claim`),
     ...byKind(waiting, e => `${e.waitsFor}`, (e, on) => `save ${t} waits for ${saves(e.waitsFor)} on ${on}`)].join('; ');
 }
 
