@@ -11,7 +11,7 @@ WRONG = [
     ('arrows the wrong way', 'www/lanes.js', 'const from = this.y(t) + MIDDLE, to = this.y(u) + MIDDLE,', 'const from = this.y(u) + MIDDLE, to = this.y(t) + MIDDLE,', BROWSER, 'compare'),
     ('an arrow too few', 'www/lanes.js', 'u of count <= MOST_ARROWS ? on', 'u of count <= 1 ? on', BROWSER, 'compare'),
     ('arrows left out without a word', 'www/page.js', "$('arrows').hidden = !fewer;", '', BROWSER, 'many'),
-    ('a node that has taken it blamed', 'www/sentences.js', 's.taken[n] <= place', 's.taken[n] > place', BROWSER, 'many'),
+    ('an entry that is there told as missing', 'www/sentences.js', '!queue(s, c.sheet).some(e => e.save === t)', 'queue(s, c.sheet).some(e => e.save === t)', BROWSER, 'many'),
     ('a refusal said at every step', 'www/editor.js', 'if (box.textContent !== whole.textContent) box', 'box', BROWSER, 'keyboard'),
     ('a former place drawn as the last', 'www/panels.js', "heading('col', last ? '' : 'former',", "heading('col', '',", BROWSER, 'compare'),
     ('a counter behind is not told', 'www/state.js', "behind: behind === 'B'", 'behind: false', BROWSER, 'compare'),
