@@ -2,6 +2,7 @@
 ghost use Prim.Native.Nat.{_<_};
 use libc::STDIN_FILENO;
 use libc::STDOUT_FILENO;
+use limits::MAX_SESSION;
 use session::Reply;
 use state::Cause;
 use state::Rule;
@@ -89,7 +90,7 @@ fn say_bytes(bytes: &[u8]) {
 
 fn main() {
     // One byte more than a session may have: a longer input is then refused for what it is.
-    let mut space = [0u8; 16385];
+    let mut space = [0u8; MAX_SESSION + 1];
     let n = io::read_full(STDIN_FILENO, &mut space);
     say_reply(cusphewa::last_answer(&space[..n]));
     say_bytes(cusphewa::shown(&space[..n]));

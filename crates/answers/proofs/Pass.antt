@@ -6,6 +6,7 @@ use mathlib.Core.List.{List, [], _∷_, _++_, map, map-append, append-assoc, app
 use mathlib.Core.Option.{none, some}
 use native.Mathlib.Omega.{arith}
 use lib.ListN.{length, take, drop, length-drop}
+use Rattle.rules.specs.Sizes.{max-session, max-commands}
 use Rattle.rules.specs.Bytes.{header, opens, byte, Command, unknown, cut, whole, ended, stopped, Step as Stepping, Reading, more, read-from}
 use Rattle.rules.specs.State.{State, fresh}
 use Rattle.rules.specs.Steps.{check, pass, refuse, effect, answer}
@@ -79,15 +80,15 @@ module _ {b : List ℕ} (o : opens b ≡ true) {m : ℕ} {x : Slices} {tally : T
   abbrev here : State
   here = shown m x (figures tally)
 
-  pub room : 8192 ≤ length after → p < length b → count < length after
+  pub room : max-commands ≤ length after → p < length b → count < length after
   room h l = omega (arith, v .few, opens-has b o .0 .size)
 
-  pub near : p < length b → p ≤ 16384
+  pub near : p < length b → p ≤ max-session
   near l = omega (arith, opens-has b o .0 .size)
 
   -- the list is complete with these answers
   ended-by : {l : List ℕ} {n : ℕ} (us : List calls.Reply) → rest b here p ≡ us → Wrote after count (map answer-code us) (length us) n l → p + length us ≤ length b → length us ≤ 1
-      → Wrote before 0 (map answer-code (session-replies b)) 8192 n l
+      → Wrote before 0 (map answer-code (session-replies b)) max-commands n l
   ended-by us e w q h =
       wrote-next
       (sym (map-append answer-code (v .done) us) ∙ ap (map answer-code) (ap (λ t. v .done ++ t) (sym e) ∙ v .same))
@@ -96,7 +97,7 @@ module _ {b : List ℕ} (o : opens b ≡ true) {m : ℕ} {x : Slices} {tally : T
 
   -- with a refusal
   refused-by : {l : List ℕ} {n k : ℕ} → rest b here p ≡ refusal p k ∷ [] → p < length b → Wrote after count (answer-code (reply-of (reply.Refused p k)) ∷ []) 1 n l
-      → Wrote before 0 (map answer-code (session-replies b)) 8192 n l
+      → Wrote before 0 (map answer-code (session-replies b)) max-commands n l
   refused-by {k = k} e h w = ended-by (refusal p k ∷ []) e w (omega arith) (omega arith)
 
   module _ (next : Next) (e : front-of next ≡ front-in (take (length b - p) (drop p b))) where
@@ -138,7 +139,7 @@ module _ {b : List ℕ} (o : opens b ≡ true) {m : ℕ} {x : Slices} {tally : T
             }
 
         pub stops : (refusal-in a ≡ 0 → ⊥) → {l : List ℕ} {n : ℕ} → Wrote after count (answer-code (reply-of (reply.Refused p (refusal-in a))) ∷ []) 1 n l
-            → Wrote before 0 (map answer-code (session-replies b)) 8192 n l
+            → Wrote before 0 (map answer-code (session-replies b)) max-commands n l
         stops n w′ =
             let y = stayed here (shown m x′ (advanced (figures tally) a)) (command-of c) a (s .equation (figures tally)) n in
             refused-by (ap (λ (t : Reading). replies here (t .steps) (t .stop)) reads-this ∙ replies-refuses here this onward (refusal-in a) (y .refused)) (omega (arith, fits)) w′
@@ -146,18 +147,18 @@ module _ {b : List ℕ} (o : opens b ≡ true) {m : ℕ} {x : Slices} {tally : T
     -- ---- The end
 
     pub unknown-there : next ≡ Unknown → p < length b → {l : List ℕ} {n : ℕ} → Wrote after count (answer-code (reply-of (reply.Refused p 2)) ∷ []) 1 n l
-        → Wrote before 0 (map answer-code (session-replies b)) 8192 n l
+        → Wrote before 0 (map answer-code (session-replies b)) max-commands n l
     unknown-there q h w = refused-by (replies-ends here (at-unknown b p (needs.found o (v .looping) next e (ap front-of q)))) h w
 
     pub cut-there : next ≡ Cut → p < length b → {l : List ℕ} {n : ℕ} → Wrote after count (answer-code (reply-of (reply.Refused p 3)) ∷ []) 1 n l
-        → Wrote before 0 (map answer-code (session-replies b)) 8192 n l
+        → Wrote before 0 (map answer-code (session-replies b)) max-commands n l
     cut-there q h w = refused-by (replies-ends here (at-cut b p (needs.found o (v .looping) next e (ap front-of q)))) h w
 
-    pub ends-there : next ≡ End → Wrote before 0 (map answer-code (session-replies b)) 8192 count after
+    pub ends-there : next ≡ End → Wrote before 0 (map answer-code (session-replies b)) max-commands count after
     ends-there q = ended-by [] (nothing-left here (at-end b p (needs.found o (v .looping) next e (ap front-of q)))) (wrote-none after count) (omega (arith, v .looping .going .within)) (omega arith)
 
   -- nothing is left
-  pub finished : length b ≤ p → Wrote before 0 (map answer-code (session-replies b)) 8192 count after
+  pub finished : length b ≤ p → Wrote before 0 (map answer-code (session-replies b)) max-commands count after
   finished h = ends-there End (sym (nothing (take (length b - p) (drop p b)) (ap length (rest-of b p) ∙ length-drop p b ∙ omega arith))) refl
 
 -- no refusal's offset is in an accepted command's answer

@@ -8,12 +8,6 @@ use Rattle.rules.specs.Writing as lists
 use Rattle.rules.specs.Answers.{session-replies}
 use Rattle.codes.specs.Codes.{answer-code}
 
--- a command has two bytes at least, and a session 16,384
-abbrev pub most-answers : ℕ
-most-answers = 8192
-
--- ---- The call
-
 -- the answers' numbers at the front of the room: 1, then 15, which says how many there are; nothing is written
 abbrev pub answers-if : (opens : Bool) → (session room : List ℕ) → lists.Call
 answers-if true b room = lists.put (length (session-replies b)) (lists.wrote (length (session-replies b))) (map answer-code (session-replies b)) room

@@ -3,7 +3,8 @@ ghost use mathlib.Core.Path.{_≡_};
 ghost use mathlib.Core.List.{[], _∷_, _++_, map};
 ghost use Prim.Native.Nat.{_≤_, _<_};
 ghost use lib.ListN.{length, take, drop};
-ghost use Rattle.rules.specs.Answers.{EachPrefix, session-replies};
+ghost use Rattle.rules.specs.Sizes.{max-commands};
+ghost use Rattle.rules.specs.Answers.{EachPrefix, FewAnswers, session-replies};
 ghost use Rattle.text.specs.Wrote.{Wrote};
 ghost use Rattle.wire.specs.Meaning.{opened};
 ghost use Rattle.wire.specs.declared.Opened.the-variants.{Header};
@@ -11,8 +12,9 @@ ghost use Rattle.state.specs.Slices.{slices};
 ghost use Rattle.session.specs.Meaning.{reply-of};
 ghost use Rattle.session.specs.Looping.{Begins};
 ghost use Rattle.codes.specs.Codes.{answer-code, NearReply, told-call, outcome-of, fitted, Small};
-ghost use Rattle.answers.specs.Meaning.{most-answers, answers-call};
+ghost use Rattle.answers.specs.Meaning.{answers-call};
 use codes::Placed;
+use limits::MAX_COMMANDS;
 use session::Reply;
 use state::Session;
 use tally::Tally;
@@ -39,8 +41,8 @@ fn walk(
     w: &mut [u32],
     m: usize,
 ) -> usize
-    requires { ⌜ Begins (now session) m (slices (now b) (now listed) (now value) (now seen) (now w)) × (most-answers ≤ length (now list)) ⌝ }
-    ensures { λ r. ⌜ Wrote (now (list .entry)) 0 (map answer-code (session-replies (now (session .entry)))) most-answers r (now (list .exit)) ⌝ }
+    requires { ⌜ Begins (now session) m (slices (now b) (now listed) (now value) (now seen) (now w)) × (max-commands ≤ length (now list)) ⌝ }
+    ensures { λ r. ⌜ Wrote (now (list .entry)) 0 (map answer-code (session-replies (now (session .entry)))) max-commands r (now (list .exit)) ⌝ }
 {
     let mut tally = Tally::new();
     let mut count: usize = 0;
@@ -80,14 +82,14 @@ fn copy(room: &mut [u64], list: &[u64], n: usize)
 }
 
 // The answers of a session with this header, if the room holds them. They are listed aside first, so that nothing is written where it does not.
-pub fn tell_all(session: &[u8], room: &mut [u64], nodes: u8, sheets: u16) -> Placed
+fn tell_all(session: &[u8], room: &mut [u64], nodes: u8, sheets: u16) -> Placed
     requires { ⌜ Header nodes sheets ≡ opened (now session) ⌝ }
     ensures { λ r. ⌜
         record { outcome = outcome-of r; room = now (room .exit) } ≡ fitted (map answer-code (session-replies (now (session .entry)))) (now (room .entry))
         ⌝ }
     ensures small { λ r. ⌜ Small r ⌝ }
 {
-    let mut list = [0u64; 8192];
+    let mut list = [0u64; MAX_COMMANDS];
     let mut b = [0u8; Session::BYTES];
     let mut listed = [0u16; Session::LISTS];
     let mut value = [0u32; Session::COPIES];
@@ -118,6 +120,7 @@ pub fn tell_all(session: &[u8], room: &mut [u64], nodes: u8, sheets: u16) -> Pla
 pub extern "C" fn cusphewa_answers(session: &[u8], list: &mut [u64]) -> u64
     ensures { λ r. ⌜ record { code = r; room = now (list .exit) } ≡ told-call (answers-call (now (session .entry)) (now (list .entry))) ⌝ }
     ensures prefixes { λ _. ⌜ EachPrefix (now (session .entry)) ⌝ }
+    ensures few { λ _. ⌜ FewAnswers (now (session .entry)) ⌝ }
 {
     let header = wire::read_header(session);
     match header {

@@ -6,6 +6,7 @@ use native.Mathlib.Nat.{zero-add, min-eq-left}
 use borrow.Author.Tests.{lt-ltb}
 use lib.ListN.{length}
 use native.Mathlib.Omega.{arith}
+use Rattle.rules.specs.Sizes.{max-session, max-state}
 use Rattle.rules.specs.Writing as lists
 use Rattle.text.specs.Wrote.{Wrote}
 use Rattle.session.specs.declared.Reply.{Reply}
@@ -13,9 +14,9 @@ use Rattle.session.specs.declared.Reply.the-variants as reply
 use Rattle.session.specs.Meaning.{reply-of}
 use Rattle.codes.specs.declared.Placed.{Placed}
 use Rattle.codes.specs.declared.Placed.the-variants.{Whole, TooShort}
-use Rattle.codes.specs.Codes.{coded, answer-code, NearReply, outcome-code, told-call, outcome-of, fitted, Small}
+use Rattle.codes.specs.Codes.{coded, answer-code, NearReply, last-place, outcome-code, told-call, outcome-of, fitted, Small}
 
-pub near-refused : (r : Reply) (p c : ℕ) → r ≡ reply.Refused p c → NearReply r → p ≤ 16384
+pub near-refused : (r : Reply) (p c : ℕ) → r ≡ reply.Refused p c → NearReply r → p ≤ max-session
 near-refused r p c q w = rw q at w
 
 pub told : (r x : Reply) {n : ℕ} → r ≡ x → n ≡ answer-code (reply-of x) → n ≡ answer-code (reply-of r)
@@ -24,14 +25,14 @@ told r x q e = e ∙ ap (λ y. answer-code (reply-of y)) (sym q)
 -- ---- Calls that write into a room
 
 -- a size that is told whole
-needs-so : (n : ℕ) → n ≤ 524288 → coded 7 n 15 ≡ outcome-code (lists.refuse-with (lists.at n 15))
-needs-so n h = let e : min n 4294967295 ≡ n = min-eq-left (omega arith) in rw e
+needs-so : (n : ℕ) → n ≤ max-state → coded 7 n 15 ≡ outcome-code (lists.refuse-with (lists.at n 15))
+needs-so n h = let e : min n last-place ≡ n = min-eq-left (omega arith) in rw e
 
 module _ (p : Placed) (s : Small p) {n : ℕ} where
-  pub whole-small : p ≡ Whole n → n ≤ 524288
+  pub whole-small : p ≡ Whole n → n ≤ max-state
   whole-small q = rw q at s
 
-  pub short-small : p ≡ TooShort n → n ≤ 524288
+  pub short-small : p ≡ TooShort n → n ≤ max-state
   short-small q = rw q at s
 
   pub whole-told : {k : ℕ} → p ≡ Whole n → k ≡ coded 8 n 0 → k ≡ outcome-code (outcome-of p)

@@ -2,7 +2,7 @@
 use Prim.Native.Nat.{ℕ, _+_, _*_, _≤_, min}
 use mathlib.Core.List.{List}
 use lib.ListN.{length}
-use Rattle.rules.specs.Sizes.{max-state}
+use Rattle.rules.specs.Sizes.{max-session, max-state}
 use Rattle.rules.specs.Steps.{Rule, x-granted, x-waiting, counter-behind, Verdict, valid, invalid, accepted, content-is, took, commits, second-run}
 use Rattle.rules.specs.Calls as calls
 use Rattle.rules.specs.Writing as lists
@@ -43,7 +43,7 @@ NearReply (reply.Content v) = Unit {0}
 NearReply (reply.Took t v) = Unit {0}
 NearReply reply.Commits = Unit {0}
 NearReply reply.SecondRun = Unit {0}
-NearReply (reply.Refused p c) = p ≤ 16384
+NearReply (reply.Refused p c) = p ≤ max-session
 
 -- ---- Calls that write into a room
 

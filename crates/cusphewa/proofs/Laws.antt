@@ -5,13 +5,17 @@ use mathlib.Core.List.{List, [], _∷_}
 use native.Mathlib.Omega.{arith}
 use borrow.Author.Tests.{lt-ltb, le-ltb}
 use lib.ListN.{length, take, drop}
+use Rattle.rules.specs.Sizes.{max-session, min-buffer}
 use Rattle.rules.specs.Bytes.{header, reading}
 use Rattle.rules.specs.State.{fresh}
 use Rattle.rules.specs.Steps.{Event, run}
 use Rattle.rules.specs.Calls as calls
 use Rattle.rules.specs.Causes.{WhyFailed}
+use Rattle.rules.specs.Ordered.{AlwaysOrdered}
 use Rattle.rules.specs.Report.{stop-line, refusal-line, report, Filled, report-call}
 use Rattle.rules.proofs.Causes.{why-failed}
+use Rattle.rules.proofs.Ordered.{ordered}
+use Rattle.rules.proofs.Few.{only-twelve}
 use Rattle.rules.proofs.Sessions.{commands-of, final, session-final, stop-final, reply-final, stop-unopened, reply-unopened, report-unopened}
 use Rattle.wire.specs.declared.Opened.the-variants.{Bad}
 use Rattle.wire.specs.Meaning.{opened}
@@ -32,7 +36,7 @@ use Rattle.cusphewa.specs.Codes.{part-code, Near}
 
 -- ---- Where a run stops
 
-near-by : (n : ℕ) (s : Stop) → n ≤ 16384 → Within 16384 s → Near n s
+near-by : (n : ℕ) (s : Stop) → n ≤ max-session → Within max-session s → Near n s
 near-by n End l w = l
 near-by n (Refused p c k) l w = w
 
@@ -46,8 +50,8 @@ unfolding final
 final-last b p n e = last-of-none calls.no-command (run (fresh (header b)) (commands-of (reading b)) .events) p n (λ q. let z : _≡_ {A = ℕ} 0 1 = cc in omega arith) e
 
 module _ (b : List ℕ) (nodes sheets : ℕ) (o : Opening b nodes sheets) (r : Ended) (v : Answered b r) where
-  pub stop-small : Within 16384 (r .stop)
-  stop-small = within-less (length b) 16384 (r .stop) (opens-has b (o .opened-well) .0 .size) (v .within)
+  pub stop-small : Within max-session (r .stop)
+  stop-small = within-less (length b) max-session (r .stop) (opens-has b (o .opened-well) .0 .size) (v .within)
 
   -- ---- The answer and the stop
 
@@ -110,22 +114,26 @@ module _ (b : List ℕ) (s : Stop) (e : stop-of s ≡ calls.stop b) where
   unfolding calls.part
   coded-part p n k q = rw (← e, q)
 
-pub near-end : (n : ℕ) (s : Stop) → s ≡ End → Near n s → n ≤ 16384
+pub near-end : (n : ℕ) (s : Stop) → s ≡ End → Near n s → n ≤ max-session
 near-end n s q w = rw q at w
 
-pub near-part : (n : ℕ) (s : Stop) (p c k : ℕ) → s ≡ Refused p c k → Near n s → p + k ≤ 16384
+pub near-part : (n : ℕ) (s : Stop) (p c k : ℕ) → s ≡ Refused p c k → Near n s → p + k ≤ max-session
 near-part n s p c k q w = rw q at w
 
-pub told : (b : List ℕ) (r : Reply) {n : ℕ} → reply-of r ≡ calls.reply b → n ≡ answer-code (reply-of r) → (n ≡ answer-code (calls.reply b)) × WhyFailed
-told b r e c = (c ∙ ap answer-code e, why-failed)
+pub told : (b : List ℕ) (r : Reply) {n : ℕ} → reply-of r ≡ calls.reply b → n ≡ answer-code (reply-of r) → (n ≡ answer-code (calls.reply b)) × (WhyFailed × AlwaysOrdered)
+told b r e c = (c ∙ ap answer-code e, (why-failed, ordered))
 
 -- ---- The buffer
 
 module _ (b l : List ℕ) where
-  pub short-buffer : length l < 4096 → _≡_ {A = Filled} (record { size = 0; buffer = l }) (report-call b l)
+  pub short-buffer : length l < min-buffer → _≡_ {A = Filled} (record { size = 0; buffer = l }) (report-call b l)
   unfolding report-call
-  short-buffer h = rw (lt-ltb (length l) 4096 h)
+  short-buffer h = rw (lt-ltb (length l) min-buffer h)
 
-  pub filled : {m x : List ℕ} {r u : ℕ} → 4096 ≤ length l → u ≤ 4096 → x ≡ report b → Wrote l 0 x u r m → _≡_ {A = Filled} (record { size = r; buffer = m }) (report-call b l)
+  pub filled : {m x : List ℕ} {r u : ℕ} → min-buffer ≤ length l → u ≤ min-buffer → x ≡ report b → Wrote l 0 x u r m → _≡_ {A = Filled} (record { size = r; buffer = m }) (report-call b l)
   unfolding report-call
-  filled h k e w = wrote-front w (omega arith) ∙ rw (le-ltb (length l) 4096 h, e)
+  filled h k e w = wrote-front w (omega arith) ∙ rw (le-ltb (length l) min-buffer h, e)
+
+  -- length 0 is 12's
+  pub not-empty : {r : ℕ} {m : List ℕ} → _≡_ {A = Filled} (record { size = r; buffer = m }) (report-call b l) → r ≡ 0 → length l < min-buffer
+  not-empty e z = only-twelve b l (ap (λ (x : Filled). x .size) (sym e) ∙ z)

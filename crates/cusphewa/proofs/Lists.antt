@@ -2,7 +2,13 @@
 use Prim.Native.Nat.{ℕ, _+_, _*_, _≤_}
 use mathlib.Core.Path.{_≡_, ap}
 use mathlib.Core.List.{List}
-use Rattle.rules.specs.Writing.{Call, owners-part}
+use Rattle.rules.specs.Sizes.{max-session}
+use Rattle.rules.specs.Writing.{Call, owners-part, ReadWritten, ReadRun, FewSteps}
+use Rattle.rules.specs.Writing as lists
+use Rattle.rules.specs.Agreeing.{Agrees}
+use Rattle.rules.proofs.Writing.{read-written, read-run}
+use Rattle.rules.proofs.Agreeing.{always-agrees}
+use Rattle.rules.proofs.Few.{few-steps}
 use Rattle.wire.specs.declared.Opened.the-variants.{Header, Bad}
 use Rattle.wire.specs.Meaning.{opened}
 use Rattle.wire.proofs.Opening.{opening, unopened}
@@ -21,15 +27,19 @@ pub wrote-told : (r x : Written) {room : List ℕ} {c : Call} {n : ℕ} → r �
     → record { code = n; room = room } ≡ told-call c
 wrote-told r x q e n = rw (n, ← q) (ap told-call e)
 
-pub wrote-small : (r : Written) (n : ℕ) → r ≡ Bytes n → writing.Small r → n ≤ 16384
+pub wrote-small : (r : Written) (n : ℕ) → r ≡ Bytes n → writing.Small r → n ≤ max-session
 wrote-small r n q s = rw q at s
 
 pub read-told : (r x : Listed) {room : List ℕ} {c : Call} {n : ℕ} → r ≡ x → record { outcome = listing.outcome-of r; room = room } ≡ c → n ≡ outcome-code (listing.outcome-of x)
     → record { code = n; room = room } ≡ told-call c
 read-told r x q e n = rw (n, ← q) (ap told-call e)
 
-pub read-small : (r : Listed) (n m q : ℕ) → r ≡ Steps n m q → listing.Small r → q ≤ 16384
+pub read-small : (r : Listed) (n m q : ℕ) → r ≡ Steps n m q → listing.Small r → q ≤ max-session
 read-small r n m q e s = rw e at s
+
+-- what is said of every session of bytes that is read
+pub of-bytes : (b : List ℕ) → lists.Bytes b → ReadWritten b × (ReadRun b × (Agrees b × FewSteps b))
+of-bytes b h = (read-written b h, (read-run b, (always-agrees b h, few-steps b)))
 
 -- ---- The owners
 

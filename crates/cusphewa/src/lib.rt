@@ -1,8 +1,8 @@
 // The calls on a session: its report, its answer, the part that is shown; writing a session and reading it back. `states` and `answers` have one call each
 // more.
+use limits::MIN_BUFFER;
 use listing::Listed;
 use session::Ended;
-use session::MIN_BUFFER;
 use session::Reply;
 use session::Stop;
 use wire::Opened;
@@ -15,6 +15,10 @@ ghost use Rattle.rules.specs.Neighbours.{SessionNeighbours};
 ghost use Rattle.rules.specs.Changes.{SessionChanges};
 ghost use Rattle.rules.specs.Eight.{NeverEight};
 ghost use Rattle.rules.specs.Causes.{WhyFailed};
+ghost use Rattle.rules.specs.Counter.{AlwaysAddsMarks};
+ghost use Rattle.rules.specs.Ordered.{AlwaysOrdered};
+ghost use Rattle.rules.specs.Agreeing.{Agrees, WritesAsRun, WrittenRuns};
+ghost use Rattle.rules.specs.Sizes.{min-buffer};
 ghost use Rattle.rules.specs.Calls as calls;
 ghost use Rattle.rules.specs.Report as rules;
 ghost use Rattle.rules.specs.Writing as lists;
@@ -36,7 +40,9 @@ pub extern "C" fn cusphewa_report(session: &[u8], report: &mut [u8]) -> usize
     ensures neighbours { λ _. ⌜ SessionNeighbours (now (session .entry)) ⌝ }
     ensures changes { λ _. ⌜ SessionChanges (now (session .entry)) ⌝ }
     ensures eight { λ _. ⌜ NeverEight (now (session .entry)) ⌝ }
+    ensures marks { λ _. ⌜ AlwaysAddsMarks ⌝ }
     ensures fits { λ r. ⌜ r ≤ length (now (report .entry)) ⌝ }
+    ensures only_12 { λ r. ⌜ (r ≡ 0 → length (now (report .entry)) < min-buffer) ⌝ }
 {
     if report.len() < MIN_BUFFER {
         return 0;
@@ -121,6 +127,7 @@ pub fn shown(session: &[u8]) -> &[u8]
 pub extern "C" fn cusphewa_answer(session: &[u8]) -> u64
     ensures { λ r. ⌜ r ≡ answer-code (calls.reply (now (session .entry))) ⌝ }
     ensures why_failed { λ _. ⌜ WhyFailed ⌝ }
+    ensures ordered { λ _. ⌜ AlwaysOrdered ⌝ }
 {
     codes::reply_code(last_answer(session))
 }
@@ -169,6 +176,8 @@ pub extern "C" fn cusphewa_write(
     ensures words_again { λ _. ⌜ lists.WordsAgain (heading-of nodes sheets (now (owners .entry))) (now (steps .entry)) ⌝ }
     ensures one_writing { λ _. ⌜ lists.OneWriting (heading-of nodes sheets (now (owners .entry))) (lists.instructions (now (steps .entry))) ⌝ }
     ensures one_list { λ _. ⌜ lists.OneList (heading-of nodes sheets (now (owners .entry))) (lists.instructions (now (steps .entry))) ⌝ }
+    ensures as_run { λ _. ⌜ WritesAsRun ⌝ }
+    ensures runs { λ _. ⌜ WrittenRuns (heading-of nodes sheets (now (owners .entry))) (lists.instructions (now (steps .entry))) ⌝ }
 {
     let written = writing::write(nodes, sheets, owners, steps, session);
     match written {
@@ -183,6 +192,8 @@ pub extern "C" fn cusphewa_read(session: &[u8], steps: &mut [u32]) -> u64
     ensures { λ r. ⌜ record { code = r; room = now (steps .exit) } ≡ told-call (lists.read-call (now (session .entry)) (now (steps .entry))) ⌝ }
     ensures written_again { λ _. ⌜ lists.ReadWritten (now (session .entry)) ⌝ }
     ensures run { λ _. ⌜ lists.ReadRun (now (session .entry)) ⌝ }
+    ensures agrees { λ _. ⌜ Agrees (now (session .entry)) ⌝ }
+    ensures few { λ _. ⌜ lists.FewSteps (now (session .entry)) ⌝ }
 {
     let read = listing::read(session, steps);
     match read {
@@ -199,6 +210,8 @@ pub extern "C" fn cusphewa_read(session: &[u8], steps: &mut [u32]) -> u64
 #[no_mangle]
 pub extern "C" fn cusphewa_owners(session: &[u8]) -> u64
     ensures { λ r. ⌜ r ≡ part-code (lists.owners-part (now (session .entry))) ⌝ }
+    ensures there { λ _. ⌜ lists.OwnersThere (now (session .entry)) ⌝ }
+    ensures three_calls { λ _. ⌜ lists.ThreeCalls (now (session .entry)) ⌝ }
 {
     let header = wire::read_header(session);
     match header {

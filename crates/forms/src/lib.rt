@@ -7,6 +7,9 @@ ghost use Rattle.forms.specs.Slots.{operand-of, Has, slot-limit, slot-wi
 // A step in words: its number, then three operands.
 pub const STEP_WORDS: usize = 4;
 
+// Save numbers are below this.
+const SAVE_NUMBERS: u64 = limits::MAX_SAVES as u64;
+
 // What stands at a slot; Absent behind a command's last operand.
 pub enum Kind {
     Save,
@@ -54,7 +57,7 @@ pub fn limit(k: Kind, nodes: u64, sheets: u64) -> u64
     ensures { λ r. ⌜ r ≡ slot-limit nodes sheets (operand-of k) ⌝ }
 {
     match k {
-        Kind::Save => 32,
+        Kind::Save => SAVE_NUMBERS,
         Kind::Sheet => sheets,
         Kind::Node => nodes,
         Kind::Content => 4294967296,

@@ -11,7 +11,7 @@ use lib.Dec.{eqb, leb}
 use Rattle.rules.specs.State as rules
 use Rattle.rules.specs.Steps.{receives, apply-save}
 use Rattle.rules.specs.Counter.{wct-mark, AddsMarks}
-use Rattle.rules.proofs.Counter.{adds-marks, content-after}
+use Rattle.rules.proofs.Counter.{adds-marks, adds-mark, content-after}
 use Rattle.rules.proofs.Table.{same?, below?}
 use Rattle.state.specs.Parts.{Parts, CONTENT, WCT, MARK, OWNER, PHASE}
 use Rattle.state.specs.View.{flat, view, no-tally, advanced}
@@ -57,7 +57,7 @@ module _ (m : ℕ) (w : List ℕ) (k v c : ℕ) (km : k < m) where
 -- both numbers of a sheet, as APPLY leaves them
 received : (s : rules.State) (n t k : ℕ) {v c : ℕ} → v ≡ cond (receives s n t k) (s .copy t k .content) (s .sheet k .content) → c ≡ s .sheet k .wct + wct-mark s n t k
     → _≡_ {A = rules.Sheet} (record { content = v; wct = c }) (apply-save s n t .sheet k)
-received s n t k e f i = record { content = (e ∙ sym (content-after s n t k)) i; wct = (f ∙ sym (adds-marks s n t .sum k)) i }
+received s n t k e f i = record { content = (e ∙ sym (content-after s n t k)) i; wct = (f ∙ sym (adds-mark s n t k)) i }
 
 -- the rule's test in the row, and past it
 module _ (m : ℕ) (d : Parts) (value : List ℕ) (n t : ℕ) (w : List ℕ) (k : ℕ) where
@@ -116,6 +116,6 @@ module _ {m : ℕ} {d : Parts} {value : List ℕ} {n t : ℕ} {w : List ℕ} whe
     -- the counters, of which none past the row is raised
     pub all-counted : k ≡ m → AddsMarks (view m d value [] w no-tally) n t (flat m w′ WCT)
     all-counted e = record {
-      sum = λ j. ap (λ (f : ℕ → rules.Sheet). f j .wct) (all-applied e) ∙ adds-marks (view m d value [] w no-tally) n t .sum j;
+      sum = ap {B = ℕ → ℕ} (λ (f : ℕ → rules.Sheet) (j : ℕ). f j .wct) (all-applied e) ∙ adds-marks (view m d value [] w no-tally) n t .sum;
       exact = adds-marks (view m d value [] w no-tally) n t .exact;
     }

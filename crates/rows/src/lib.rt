@@ -10,6 +10,10 @@ ghost use Rattle.state.specs.Ready.{Whole, Table, Small, Ready, Trimmed, Lined}
 ghost use Rattle.text.specs.Wrote.{Wrote};
 ghost use Rattle.text.specs.Lines.{tally-of};
 ghost use Rattle.rows.specs.Rows.{row-of, lines-of, rows-of};
+use state::Session;
+
+// A state's lines have at most so many bytes: a P line 26, an O line 35, the T line 35.
+pub const MOST_LINES: usize = 26 * Session::SAVES + 35 * Session::SHEETS + 35;
 
 // A last place of the order: its save, the runs entered, the outcome's letter.
 pub struct Row {
@@ -42,7 +46,7 @@ pub fn place_lines(buf: &mut [u8], at: usize, rows: &[Row], count: usize) -> usi
 }
 
 // The same of an array by value: a caller lends no slice of structs, which would take a proof by hand.
-pub fn write_rows(buf: &mut [u8], at: usize, rows: [Row; 32], count: usize) -> usize
+pub fn write_rows(buf: &mut [u8], at: usize, rows: [Row; Session::SAVES], count: usize) -> usize
     requires { ⌜ (count ≤ 32) × (at + 26 * count ≤ length (now buf)) ⌝ }
     ensures { λ r. ⌜ Wrote (now (buf .entry)) at (lines-of (take count rows)) (26 * count) r (now (buf .exit)) ⌝ }
 {
@@ -63,7 +67,7 @@ fn letter(phase: u8) -> u8
 }
 
 // The rows of the first `count` saves in line.
-fn rows_of(b: &[u8], m: usize, count: usize) -> [Row; 32]
+fn rows_of(b: &[u8], m: usize, count: usize) -> [Row; Session::SAVES]
     requires { ⌜ Whole (byte-sizes m) (bytes m (now b)) × (count ≤ 32) × Small (bytes m (now b) LINE) count ⌝ }
     ensures { λ r. ⌜ map row-of (take count r) ≡ rows-of (bytes m (now (b .entry))) count ⌝ }
 {
@@ -72,7 +76,7 @@ fn rows_of(b: &[u8], m: usize, count: usize) -> [Row; 32]
         runs: 0,
         outcome: 0,
     };
-    let mut rows = [none; 32];
+    let mut rows = [none; Session::SAVES];
     let mut i: usize = 0;
     while i < count {
         let t = state::in_line(b, m, i);

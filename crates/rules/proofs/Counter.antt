@@ -1,13 +1,14 @@
 -- APPLY adds the mark.
 use Prim.Native.Nat.{ℕ, _+_}
-use mathlib.Core.Path.{_≡_, refl, sym, ap, _∙_}
+use mathlib.Core.Path.{_≡_, refl, sym, ap, _∙_, fun-ext}
 use mathlib.Core.Bool.{Bool, true, false, _&&_, not, cond}
 use native.Mathlib.Omega.{arith}
 use lib.Dec.{eqb, ltb}
 use borrow.Author.Tests.{lt-ltb, le-ltb}
 use Rattle.rules.specs.State.{Sheet, store, State}
-use Rattle.rules.specs.Steps.{receives, apply-save}
-use Rattle.rules.specs.Counter.{AddsMarks}
+use Rattle.rules.specs.Bytes.{Apply}
+use Rattle.rules.specs.Steps.{receives, apply-save, Checked, pass, refuse, check, accepted, answered, step-by}
+use Rattle.rules.specs.Counter.{wct-mark, AddsMarks, AlwaysAddsMarks}
 use Rattle.rules.proofs.Storing.{store-adds}
 
 -- a bit that is added raises exactly where it is 1
@@ -37,10 +38,22 @@ module _ (c : Sheet) (v : ℕ) where
 module _ (s : State) (n t : ℕ) where
   pub adds-marks : AddsMarks s n t (λ k. apply-save s n t .sheet k .wct)
   adds-marks = record {
-    sum = λ k. by-mark (s .sheet k) (s .copy t k .content) (receives s n t k);
-    exact = λ k. where-raised (s .sheet k) (s .copy t k .content) (receives s n t k);
+    sum = fun-ext (λ k. by-mark (s .sheet k) (s .copy t k .content) (receives s n t k));
+    exact = fun-ext (λ k. where-raised (s .sheet k) (s .copy t k .content) (receives s n t k));
   }
+
+  -- at one sheet
+  pub adds-mark : (k : ℕ) → apply-save s n t .sheet k .wct ≡ s .sheet k .wct + wct-mark s n t k
+  adds-mark k = ap (λ (f : ℕ → ℕ). f k) (adds-marks .sum)
 
   -- what APPLY makes of a content
   pub content-after : (k : ℕ) → apply-save s n t .sheet k .content ≡ cond (receives s n t k) (s .copy t k .content) (s .sheet k .content)
   content-after k = content-by (s .sheet k) (s .copy t k .content) (receives s n t k)
+
+-- an APPLY that is answered was accepted
+pub always-adds-marks : AlwaysAddsMarks
+always-adds-marks s n t = go (check s (Apply n t))
+  where
+    go : (x : Checked) → step-by x s (Apply n t) .result ≡ answered accepted → AddsMarks s n t (λ k. step-by x s (Apply n t) .state .sheet k .wct)
+    go pass e = adds-marks s n t
+    go (refuse m) e = absurd (let z : _≡_ {A = ℕ} 0 1 = cc in omega arith)

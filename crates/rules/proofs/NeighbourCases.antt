@@ -9,7 +9,7 @@ use Rattle.rules.specs.Calls.{stop}
 use Rattle.rules.specs.Report.{report}
 use Rattle.rules.specs.Cases.{hex, in-one-order, in-another}
 use Rattle.rules.specs.Neighbours.{Swaps, swap, behind, then, SwappedSteps}
-use Rattle.rules.proofs.Neighbours.{session-neighbours}
+use Rattle.rules.proofs.Neighbours.{same-report}
 
 past : (front : List Command) {cs ds : List Command} → Swaps cs ds → Swaps (front ++ cs) (front ++ ds)
 past [] p = p
@@ -42,4 +42,4 @@ unfolding upd upd2 row all any wide-by read-from fresh x-on run stop
 accepted-whole = refl
 
 pub one-report : report (hex in-another) ≡ report (hex in-one-order)
-one-report = session-neighbours (hex in-one-order) .reports (hex in-another) accepted-whole swapped .1
+one-report = same-report (hex in-one-order) (hex in-another) accepted-whole swapped .1

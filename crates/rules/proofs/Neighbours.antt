@@ -14,12 +14,14 @@ use Rattle.rules.specs.Steps.{Checked, pass, refuse, check, effect, answ
 use Rattle.rules.specs.Calls.{session-run, stop-by, stop}
 use Rattle.rules.specs.Demand3.{session-commands}
 use Rattle.rules.specs.Report.{state-lines, stop-line, report}
+use Rattle.rules.specs.Writing.{Bytes}
 use Rattle.rules.specs.Neighbours.{node-of, Untouched, OneNode, differ, EitherOrder, Neighbours, Swaps, as-it-was, swap, behind, then, SameReport, SessionNeighbours}
 use Rattle.rules.proofs.Table.{bool, clash}
 use Rattle.rules.proofs.Tests.{refuse-pass}
 use Rattle.rules.proofs.Accepted.{run-accepts, run-refuses}
 use Rattle.rules.proofs.OwnOrder.{own-order}
-use Rattle.rules.proofs.Touching.{Work, node, command, as-work, at-work, plan, touch, as-touch, untouched, same-check, same-answer, same-plan, touch-swap}
+use Rattle.rules.proofs.Swapped.{swapped-report}
+use Rattle.rules.proofs.Touching.{Work, node, command, as-work, at-work, plan, touch, as-touch, marks-next, untouched, same-check, same-answer, same-plan, touch-swap}
 
 -- ---- One step
 
@@ -27,10 +29,10 @@ one-node : OneNode
 one-node s = as-work (λ c n. Untouched n s (step s c .state)) (λ w. go w (check s (command w)))
   where
     same : (n : ℕ) → Untouched n s s
-    same n = record { header = refl; phase = refl; mark = refl; copy = refl; claim = refl; runs = refl; order = refl; place = refl; sheet = λ k e. refl; queue = λ k e. refl; taken = λ m d. refl }
+    same n = record { header = refl; phase = refl; mark = refl; copy = refl; claim = refl; runs = refl; order = refl; place = refl; failed = λ t d. refl; still-failed = λ t e. e; sheet = λ k e. refl; queue = λ k e. refl; taken = λ m d. refl }
 
     go : (w : Work) (x : Checked) → Untouched (node w) s (step-by x s (command w) .state)
-    go w pass = rw (as-touch s w) (untouched s (node w) (plan s w))
+    go w pass = rw (as-touch s w) (untouched s (node w) (plan s w) (marks-next s w))
     go w (refuse n) = same (node w)
 
 -- ---- Two steps
@@ -140,19 +142,21 @@ stop-whole : (b : List ℕ) → opens b ≡ true → session-run b .end ≡ pass
 unfolding stop
 stop-whole b o r e = rw (o, r) e
 
-same-report : (b : List ℕ) → SameReport b
+pub same-report : (b : List ℕ) → SameReport b
 same-report b b′ e p = whole b e (λ o r.
     let h = same-end (p .steps) (fresh (header b)) r in
     let j : Ends (fresh (header b′)) (session-commands b′) (session-run b .state) = rw (p .one-header) h in
     let e′ = stop-whole b′ (p .opened) (j .0) (p .to-its-end) in
     (e′, report-whole b′ (p .opened) e′ ∙ ap (λ x. state-lines x ++ stop-line ended) (j .1) ∙ sym (report-whole b o e)))
 
-pub session-neighbours : (b : List ℕ) → SessionNeighbours b
-session-neighbours b = record {
+-- of a session's bytes
+pub session-neighbours : (b : List ℕ) → Bytes b → SessionNeighbours b
+session-neighbours b h = record {
   one-node = one-node;
   steps = neighbours;
   back = λ cs ds. back;
   lists = λ s cs ds p. same-end p s;
   own-order = own-order;
   reports = same-report b;
+  written = swapped-report b h (same-report b);
 }

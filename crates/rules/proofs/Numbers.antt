@@ -60,7 +60,7 @@ number-of a [] = omega arith
 number-of a (b ∷ bs) =
     number-of (a * 256 + b) bs ∙ rw (number-of (0 * 256 + b) bs, pow-suc 256 (length bs)) (omega arith)
 
-number-below : (bs : List ℕ) → Bytes bs → big-endian bs < 256 ^ length bs
+pub number-below : (bs : List ℕ) → Bytes bs → big-endian bs < 256 ^ length bs
 number-below [] h = omega arith
 number-below (b ∷ bs) h =
     let l = number-below bs (λ i. h (suc i)) in

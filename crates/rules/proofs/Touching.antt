@@ -130,8 +130,16 @@ as-touch s (apply n t) = λ i. with-nodes s (sym (upd-none (s .failed) t (s .fai
     (λ k. cond (owns s n k) (without t (s .queue k)) (s .queue k))
     (λ k. cond-and (owns s n k) (is-committed (s .phase t) && is-written (s .mark t k)) (store (s .sheet k) (s .copy t k .content)) (s .sheet k) i)
 
-pub untouched : (s : State) (n : ℕ) (p : Plan) → Untouched n s (touch s n p)
-untouched s n p = record {
+-- the save that a step may mark failed is the one at its node's next place
+pub marks-next : (s : State) (w : Work) → plan s w .found ≡ true → plan s w .who ≡ next s (node w)
+marks-next s (take n) e = refl
+marks-next s (apply n t) e = absurd (true≢false (sym e))
+
+joined-off : (f : ℕ → Bool) (i : ℕ) → joined f i false ≡ f
+joined-off f i = upd-none f i (f i || false) (or-false (f i))
+
+pub untouched : (s : State) (n : ℕ) (p : Plan) → (p .found ≡ true → p .who ≡ next s n) → Untouched n s (touch s n p)
+untouched s n p w = record {
   header = refl;
   phase = refl;
   mark = refl;
@@ -140,6 +148,10 @@ untouched s n p = record {
   runs = refl;
   order = refl;
   place = refl;
+  failed = λ t d. bool (p .found)
+      (λ e. upd-other (s .failed) (p .who) (s .failed (p .who) || p .found) t (λ z. d (z ∙ w e)))
+      (λ e. rw e (ap (λ (f : ℕ → Bool). f t) (joined-off (s .failed) (p .who))));
+  still-failed = λ t e. upd-at (λ b. b ≡ true) (s .failed) (p .who) (s .failed (p .who) || p .found) t (λ z. rw (← z, e)) (λ _. e);
   sheet = λ k e. rw e;
   queue = λ k e. rw e;
   taken = λ m d. upd-other (s .taken) n (p .far (s .taken n)) m d;
@@ -152,7 +164,7 @@ not-both s n m k d e = ne-eqb (s .header .owner k) n (λ z. d (sym z ∙ eqb-tru
 
 module _ (s : State) (n : ℕ) (p : Plan) (m : ℕ) (d : n ≢ m) where
   same-taken : touch s n p .taken m ≡ s .taken m
-  same-taken = untouched s n p .taken m (λ e. d (sym e))
+  same-taken = upd-other (s .taken) n (p .far (s .taken n)) m (λ e. d (sym e))
 
   -- a test of each sheet that node m owns
   same-sheets : (f g : ℕ → Bool) → ((k : ℕ) → owns s n k ≡ false → f k ≡ g k) → any (s .header .sheets) (λ k. owns s m k && f k) ≡ any (s .header .sheets) (λ k. owns s m k && g k)

@@ -1,5 +1,5 @@
 -- A list written and read, a session read and written: request 2's theorems.
-use Prim.Native.Nat.{ℕ, zero, suc, _+_, _-_, _^_, _≤_, _<_}
+use Prim.Native.Nat.{ℕ, zero, suc, _+_, _-_, _*_, _^_, _≤_, _<_}
 use mathlib.Core.Path.{_≡_, refl, sym, ap, _∙_}
 use mathlib.Core.Bool.{Bool, true, false, _&&_}
 use mathlib.Core.List.{List, [], _∷_, _++_, append-assoc, map}
@@ -11,9 +11,10 @@ use lib.Dec.{eqb, leb, ltb}
 use lib.ListN.{length, getD, take, drop, replicate, length-append, length-take, length-drop, take-append-drop}
 use lib.Seq.{take-at, drop-at, take-add, drop-drop, drop-nil}
 use Rattle.rules.specs.Sizes.{max-nodes, max-sheets, max-session}
-use Rattle.rules.specs.Bytes.{Header, byte, header, header-size, in-range, opens, Operand, save, sheet, node, content, width, limit, Form, commands, form-of, widths, values, whole, front, Step, read-from}
+use Rattle.rules.specs.Bytes.{Header, byte, header, header-size, in-range, opens, Operand, save, sheet, node, content, width, limit, Command, Begin, Read, Write, Submit, Take, Decide, Apply, GiveUp, Form, commands, form-of, widths, values, whole, front, Step, ended, read-from, reading}
 use Rattle.rules.specs.Steps.{Checked, pass, refuse}
-use Rattle.rules.specs.Writing.{Heading, Instruction, header-of, slots, Refusal, at, unless, first-of, heading-fits, zeros, below-limits, operands-fit, form, check-by, check-step, refusal-at, steps-refusal, in-bytes, operand-bytes, step-bytes, steps-bytes, session-bytes, bytes, refused, written-unless, write-refusal, write, heading, Listing, steps, stops, also, numbers, instruction, list-by, list-from, session, refuses, listed-by, read, Bytes, ReadWritten, WrittenRead, OneWriting, OneList, commands-of, ReadRun, instructions, words, read-call, WordsAgain}
+use Rattle.rules.specs.Demand3.{session-commands}
+use Rattle.rules.specs.Writing.{Heading, Instruction, header-of, slots, Refusal, at, unless, first-of, heading-fits, zeros, below-limits, operands-fit, form, check-by, check-step, refusal-at, steps-refusal, in-bytes, operand-bytes, step-bytes, steps-bytes, session-bytes, bytes, refused, written-unless, write-refusal, write, heading, Listing, steps, stops, also, numbers, instruction, list-by, list-from, session, refuses, listed-by, read, Bytes, ReadWritten, WrittenRead, OneWriting, OneList, commands-of, ReadRun, as-step, AsSteps, ReadSteps, instructions, step-words, words, Listed, listed, refuse-with, read-into, read-call, write-call, WordsAgain, owners-part, part-of, OwnersThere, ThreeCalls}
 use Rattle.rules.proofs.Table.{bool, and-l, and-r}
 use Rattle.rules.proofs.Numbers.{bytes-drop, bytes-take, in-bytes-length, number-back, bytes-back}
 
@@ -33,6 +34,13 @@ in-table P (g ∷ fs) a b f e =
   where
     one : {g f : Form} → some g ≡ some f → g ≡ f
     one e = cc
+
+-- the line that is found has the number asked for
+pub number-found : (b : ℕ) (fs : List Form) (f : Form) → form-of b fs ≡ some f → f .number ≡ b
+number-found b [] f e = absurd (let z : _≡_ {A = ℕ} 0 1 = cc in omega arith)
+number-found b (g ∷ fs) f e = bool (eqb (g .number) b)
+    (λ q. let z : some g ≡ some f = rw q at e in let y : g ≡ f = cc in rw (← y) (eqb-true (g .number) b q))
+    (λ q. number-found b fs f (rw q at e))
 
 pub few-operands : (b : ℕ) (f : Form) → form b ≡ some f → length (f .operands) ≤ slots
 unfolding form
@@ -105,11 +113,11 @@ passes n m i (some f) e on =
     clash : refuse 4 ≡ pass → ⊥
     clash e = let z : _≡_ {A = ℕ} 0 1 = cc in omega arith
 
-none-first : {P : Type 0} (a b : Option Refusal) → first-of a b ≡ none → (a ≡ none → b ≡ none → P) → P
+pub none-first : {P : Type 0} (a b : Option Refusal) → first-of a b ≡ none → (a ≡ none → b ≡ none → P) → P
 none-first none b e on = on refl e
 none-first (some r) b e on = absurd (let z : _≡_ {A = ℕ} 0 1 = cc in omega arith)
 
-none-passes : (p : ℕ) (c : Checked) → refusal-at p c ≡ none → c ≡ pass
+pub none-passes : (p : ℕ) (c : Checked) → refusal-at p c ≡ none → c ≡ pass
 none-passes p pass e = refl
 none-passes p (refuse n) e = absurd (let z : _≡_ {A = ℕ} 0 1 = cc in omega arith)
 
@@ -336,6 +344,58 @@ listed-run n m zero p (b ∷ bs) is e =
 pub read-run : (b : List ℕ) → ReadRun b
 read-run b g is e = read-inverts b g is e (λ o same list. rw (← same) (refl, listed-run (byte b 0) (byte b 1) 0 (header-size b) (drop (header-size b) b) is list))
 
+-- ---- A command as a step
+
+pub as-steps : AsSteps
+unfolding form commands-of
+as-steps [] = refl
+as-steps (c ∷ cs) = go c (as-steps cs)
+  where
+    go : (c : Command) → commands-of (map as-step cs) ≡ cs → commands-of (as-step c ∷ map as-step cs) ≡ c ∷ cs
+    go (Begin t) e = rw e
+    go (Read t k) e = rw e
+    go (Write t k v) e = rw e
+    go (Submit t) e = rw e
+    go (Take n) e = rw e
+    go (Decide t) e = rw e
+    go (Apply n t) e = rw e
+    go (GiveUp t) e = rw e
+
+-- it has a number and three more
+as-three : (P : Instruction → Type 0) → ((b x y z : ℕ) → P (record { number = b; operands = x ∷ y ∷ z ∷ [] })) → (c : Command) → P (as-step c)
+as-three P f (Begin t) = f 1 t 0 0
+as-three P f (Read t k) = f 2 t k 0
+as-three P f (Write t k v) = f 3 t k v
+as-three P f (Submit t) = f 4 t 0 0
+as-three P f (Take n) = f 5 n 0 0
+as-three P f (Decide t) = f 6 t 0 0
+as-three P f (Apply n t) = f 7 n t 0
+as-three P f (GiveUp t) = f 8 t 0 0
+
+-- what stands in the bytes is its command's step
+as-read : (b : ℕ) (f : Form) → form b ≡ some f → (bs : List ℕ) → as-step (f .command (values (f .operands) bs)) ≡ instruction b (f .operands) bs
+unfolding form
+as-read b f e bs = rw (← number-found b commands f e)
+    (in-table (λ f. (bs : List ℕ) → as-step (f .command (values (f .operands) bs)) ≡ instruction (f .number) (f .operands) bs) commands
+    (λ bs. refl, (λ bs. refl, (λ bs. refl, (λ bs. refl, (λ bs. refl, (λ bs. refl, (λ bs. refl, (λ bs. refl, tt)))))))) b f e bs)
+
+listed-steps : (n m w p : ℕ) (bs : List ℕ) (is : List Instruction) → list-from n m w p bs ≡ steps is
+    → (is ≡ map as-step (map (λ (s : Step). s .command) (read-from w p bs .steps))) × (read-from w p bs .stop ≡ ended)
+unfolding list-from read-from
+listed-steps n m w p [] is e = let z : is ≡ [] = cc in rw z (refl, refl)
+listed-steps n m (suc w) p (b ∷ bs) is e = listed-steps n m w (suc p) bs is e
+listed-steps n m zero p (b ∷ bs) is e =
+    list-inverts n m b p (form b) bs (λ w. list-from n m w (suc p) bs) e (λ f q long fit js on z.
+    let rest = listed-steps n m (widths (f .operands)) (suc p) bs js on in
+    rw (z, front-at b f bs q long, as-read b f q bs) (ap (λ (l : List Instruction). instruction b (f .operands) bs ∷ l) (rest .0), rest .1))
+
+pub read-steps : (b : List ℕ) → ReadSteps b
+read-steps b g is e = read-inverts b g is e (λ o same list. listed-steps (byte b 0) (byte b 1) 0 (header-size b) (drop (header-size b) b) is list .0)
+
+-- a session that is read has steps to its end
+pub read-whole : (b : List ℕ) (g : Heading) (is : List Instruction) → read b ≡ session g is → reading b .stop ≡ ended
+read-whole b g is e = read-inverts b g is e (λ o same list. listed-steps (byte b 0) (byte b 1) 0 (header-size b) (drop (header-size b) b) is list .1)
+
 -- ---- In words
 
 words-of : (ws : List ℕ) → words (instructions ws) ≡ ws
@@ -349,3 +409,42 @@ words-of (c ∷ x ∷ y ∷ z ∷ ws) = ap (λ (l : List ℕ). c ∷ x ∷ y ∷
 pub words-again : (g : Heading) (ws : List ℕ) → WordsAgain g ws
 unfolding read-call
 words-again g ws b room e h = rw (written-read g (instructions ws) b e, words-of ws, le-ltb (length room) (length ws) h)
+
+-- the words of commands' steps, four each, are these steps again
+step-words-many : (cs : List Command) → length (words (map as-step cs)) ≡ length (map as-step cs) * step-words
+unfolding words
+step-words-many [] = refl
+step-words-many (c ∷ cs) = as-three (λ i. length (words (i ∷ map as-step cs)) ≡ length (i ∷ map as-step cs) * step-words) (λ b x y z. omega (arith, step-words-many cs)) c
+
+step-words-back : (cs : List Command) → instructions (words (map as-step cs)) ≡ map as-step cs
+unfolding words
+step-words-back [] = refl
+step-words-back (c ∷ cs) = as-three (λ i. instructions (words (i ∷ map as-step cs)) ≡ i ∷ map as-step cs) (λ b x y z. ap (λ (l : List Instruction). record { number = b; operands = x ∷ y ∷ z ∷ [] } ∷ l) (step-words-back cs)) c
+
+-- ---- The host's three calls
+
+pub owners-there : (b : List ℕ) → OwnersThere b
+unfolding owners-part
+owners-there b o = rw o
+
+-- what a reading's call told: the session that was read, with its words in front
+told-read : {P : Type 0} (l : Listed) (room : List ℕ) (n m q : ℕ) → read-into l room .outcome ≡ listed n m q
+    → ((g : Heading) (is : List Instruction) → l ≡ session g is → g .nodes ≡ n → g .sheets ≡ m → length is ≡ q → read-into l room .room ≡ words is ++ drop (length (words is)) room → P) → P
+told-read (refuses r) room n m q e on = absurd (let z : _≡_ {A = ℕ} 0 1 = cc in omega arith)
+told-read {P} (session g is) room n m q e on = bool (ltb (length room) (length (words is)))
+    (λ t. refused-call (rw t at e))
+    (λ t. let z : listed (g .nodes) (g .sheets) (length is) ≡ listed n m q = rw t at e in on g is refl (cc) (cc) (cc) (rw t))
+  where
+    refused-call : {r : Refusal} → refuse-with r ≡ listed n m q → P
+    refused-call e = absurd (let z : _≡_ {A = ℕ} 0 1 = cc in omega arith)
+
+pub three-calls : (b : List ℕ) → Bytes b → ThreeCalls b
+unfolding read-call write-call
+three-calls b h ws room n m q e long = told-read (read b) ws n m q e (λ g is r nodes sheets many front.
+    read-inverts b g is r (λ o same _.
+    let s = read-steps b g is r in
+    let cs = session-commands b in
+    let back : instructions (take (q * step-words) (read-into (read b) ws .room)) ≡ is =
+    rw (front, ← many, s, take-at (words (map as-step cs)) (drop (length (words (map as-step cs))) ws) (length (map as-step cs) * step-words) (step-words-many cs)) (step-words-back cs) in
+    let again : write (record { nodes = n; sheets = m; owners = part-of (owners-part b) b }) is ≡ bytes b = rw (← nodes, ← sheets, owners-there b o, ← same) (rw (← same) at (read-written b h g is r)) in
+    rw (back, again, le-ltb (length room) (length b) long)))

@@ -1,10 +1,11 @@
 -- Every command's answer, in one list: what the course page's host shows beside each step. That it is the answer call's answer of the session
 -- cut behind each command follows from the definitions (proofs/Answers.antt).
-use Prim.Native.Nat.{ℕ, _+_}
+use Prim.Native.Nat.{ℕ, _+_, _≤_}
 use mathlib.Core.Path.{_≡_}
 use mathlib.Core.Bool.{true}
 use mathlib.Core.List.{List, [], _∷_, _++_, map}
 use lib.ListN.{length, take}
+use Rattle.rules.specs.Sizes.{max-answers}
 use Rattle.rules.specs.Bytes.{header, Step, Stop, ended, stopped, opens, reading}
 use Rattle.rules.specs.State.{State, fresh}
 use Rattle.rules.specs.Steps.{Result, answered, refused, step}
@@ -30,6 +31,10 @@ replies s (c ∷ cs) stop = reply-on (step s (c .command) .result) (c .offset) (
 -- of a session that opens
 unfoldable pub session-replies : List ℕ → List Reply
 session-replies b = replies (fresh (header b)) (reading b .steps) (reading b .stop)
+
+-- No session has more answers.
+abbrev pub FewAnswers : List ℕ → Type 0
+FewAnswers b = opens b ≡ true → length (session-replies b) ≤ max-answers
 
 -- ---- The same by the answer call
 

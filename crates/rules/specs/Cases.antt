@@ -51,7 +51,7 @@ abbrev fresh : String
 fresh = "01 01 00 "
 
 -- W up to offset 36: both saves are taken
-abbrev W-36 : String
+abbrev pub W-36 : String
 W-36 = "02 02 00 01  01 00  01 01  02 00 00  02 01 00  03 00 00 00 00 00 07  03 01 00 00 00 00 09  04 00  04 01  05 00  05 00  "
 
 -- up to 38: save 0 is decided
@@ -66,7 +66,7 @@ W-43 = W-38 ++ "07 00 00  06 01  "
 abbrev W-end : String
 W-end = "03 01 00 00 00 00 09  04 01  07 00 01  "
 
-abbrev W : String
+abbrev pub W : String
 W = W-43 ++ "02 01 00  " ++ W-end
 
 -- save 0 reads the sheet, 1 reads and writes it, 2 reads it; all submitted
@@ -146,7 +146,7 @@ abbrev all-taken : String
 all-taken = "P 0 1 U\nP 1 1 U\nO 0 0 0\nO 1 0 0\nT 14 0 0\n"
 
 -- node 0 has taken the only save
-abbrev one-taken : String
+abbrev pub one-taken : String
 one-taken = "02 02 00 01  01 00  04 00  05 00  "
 
 abbrev pub neighbours : List Case
@@ -209,7 +209,7 @@ abbrev marks : String → (n t of-0 of-1 : ℕ) → Marks
 marks s n t a b = record { session = s; node = n; save = t; of-0 = a; of-1 = b }
 
 -- two nodes with a sheet each; save 0 writes v to sheet 0 and 5 to sheet 1, and is committed
-abbrev both-written : (v : String) → String
+abbrev pub both-written : (v : String) → String
 both-written v = "02 02 00 01  01 00  02 00 00  03 00 00 00 00 00 " ++ v ++ "  02 00 01  03 00 01 00 00 00 05  04 00  05 00  05 01  06 00  "
 
 abbrev pub applies : List Marks

@@ -3,6 +3,7 @@ pub mod Sizes
 pub mod Bytes
 pub mod State
 pub mod Steps
+pub mod Ordered
 pub mod WhichPhase
 pub mod Causes
 pub mod Counter
@@ -12,10 +13,13 @@ pub mod Changes
 pub mod Calls
 pub mod Eight
 pub mod Writing
+pub mod Agreeing
 pub mod Answers
 pub mod Report
 pub mod Showing
 pub mod Neighbours
 pub mod Cases
+pub mod SerialCases
 pub mod WritingCases
 pub mod ShowingCases
+pub mod TooStrong

@@ -4,15 +4,16 @@ use Prim.Native.Nat.{ℕ}
 use mathlib.Core.Path.{_≡_}
 use mathlib.Core.Bool.{Bool, true, false, not, _&&_, cond}
 use mathlib.Core.Logic.{_≢_}
-use mathlib.Core.List.{List, [], _∷_, _++_}
+use mathlib.Core.List.{List, [], _∷_, _++_, map}
 use mathlib.Core.Option.{Option, none, some}
 use lib.Dec.{eqb}
 use Rattle.rules.specs.Bytes.{Command, Begin, Read, Write, Submit, Take, Decide, Apply, GiveUp, ended, header, opens, reading}
 use Rattle.rules.specs.State.{State}
-use Rattle.rules.specs.Steps.{owns, pass, step, run}
+use Rattle.rules.specs.Steps.{owns, next, pass, step, run}
 use Rattle.rules.specs.Demand3.{session-commands}
 use Rattle.rules.specs.Calls.{stop}
 use Rattle.rules.specs.Report.{report}
+use Rattle.rules.specs.Writing.{session-bytes, bytes, write, heading, as-step}
 
 -- ---- A step at a node
 
@@ -27,8 +28,8 @@ node-of (Decide t) = none
 node-of (Apply n t) = some n
 node-of (GiveUp t) = none
 
--- What a step at node n leaves as it was: the saves, but for their failed marks; the order; and of the other nodes the sheets that they
--- own, these sheets' queues, and how many places they have taken.
+-- What a step at node n leaves as it was: the saves, but that the one at the node's next place may be marked failed; the order; and of the other nodes the
+-- sheets that they own, these sheets' queues, and how many places they have taken.
 pub record Untouched (n : ℕ) (s s′ : State) : Type 0 where
   pub header : s′ .header ≡ s .header
   pub phase : s′ .phase ≡ s .phase
@@ -38,6 +39,8 @@ pub record Untouched (n : ℕ) (s s′ : State) : Type 0 where
   pub runs : s′ .runs ≡ s .runs
   pub order : s′ .order ≡ s .order
   pub place : s′ .place ≡ s .place
+  pub failed : (t : ℕ) → t ≢ next s n → s′ .failed t ≡ s .failed t
+  pub still-failed : (t : ℕ) → s .failed t ≡ true → s′ .failed t ≡ true
   pub sheet : (k : ℕ) → owns s n k ≡ false → s′ .sheet k ≡ s .sheet k
   pub queue : (k : ℕ) → owns s n k ≡ false → s′ .queue k ≡ s .queue k
   pub taken : (m : ℕ) → m ≢ n → s′ .taken m ≡ s .taken m
@@ -119,6 +122,19 @@ pub record SwappedSteps (b b′ : List ℕ) : Type 0 where
 abbrev pub SameReport : List ℕ → Type 0
 SameReport b = (b′ : List ℕ) → stop b ≡ ended → SwappedSteps b b′ → (stop b′ ≡ ended) × (report b′ ≡ report b)
 
+-- Such a session is at hand for every list that swaps lead to: the list, written under the first one's header.
+abbrev pub swapped-session : List ℕ → List Command → List ℕ
+swapped-session b ds = session-bytes (heading b) (map as-step ds)
+
+pub record WrittenSwapped (b : List ℕ) (ds : List Command) : Type 0 where
+  pub written : write (heading b) (map as-step ds) ≡ bytes (swapped-session b ds)
+  pub whole : stop (swapped-session b ds) ≡ ended
+  pub same-report : report (swapped-session b ds) ≡ report b
+
+-- without a word on the second one's bytes
+abbrev pub SwappedReport : List ℕ → Type 0
+SwappedReport b = stop b ≡ ended → (ds : List Command) → Swaps (session-commands b) ds → WrittenSwapped b ds
+
 -- The request, as the report's contract has it: for single steps, for lists, and for this session.
 pub record SessionNeighbours (b : List ℕ) : Type 0 where
   pub one-node : OneNode
@@ -127,3 +143,4 @@ pub record SessionNeighbours (b : List ℕ) : Type 0 where
   pub lists : SameEnd
   pub own-order : OwnOrder
   pub reports : SameReport b
+  pub written : SwappedReport b

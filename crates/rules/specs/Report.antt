@@ -1,6 +1,7 @@
 -- "The report": its bytes, and the buffer after a call.
-use Prim.Native.Nat.{ℕ, zero, suc, _+_, _/_, _%_}
+use Prim.Native.Nat.{ℕ, zero, suc, _+_, _/_, _%_, _<_}
 use Prim.Native.Char.{code}
+use mathlib.Core.Path.{_≡_}
 use mathlib.Core.Bool.{Bool, true, false, cond}
 use mathlib.Core.List.{List, [], _∷_, _++_, map}
 use lib.ListN.{length, drop}
@@ -106,3 +107,7 @@ in-front text buffer = record { size = length text; buffer = text ++ drop (lengt
 -- refusal 12: a buffer under 4,096 bytes; nothing is written, the length is 0
 unfoldable pub report-call : (session buffer : List ℕ) → Filled
 report-call b buffer = cond (ltb (length buffer) min-buffer) (record { size = 0; buffer = buffer }) (in-front (report b) buffer)
+
+-- No report is empty: length 0 comes back for nothing but 12.
+abbrev pub OnlyTwelve : (session buffer : List ℕ) → Type 0
+OnlyTwelve b buffer = report-call b buffer .size ≡ 0 → length buffer < min-buffer

@@ -1,13 +1,13 @@
 -- Request 2, "Writing a session": a header and a list of steps as bytes, and a session's bytes as a header and all its steps.
-use Prim.Native.Nat.{ℕ, zero, suc, _-_, _/_, _%_, _^_, _≤_, _<_}
+use Prim.Native.Nat.{ℕ, zero, suc, _-_, _*_, _/_, _%_, _^_, _≤_, _<_}
 use mathlib.Core.Path.{_≡_}
 use mathlib.Core.Bool.{Bool, true, false, _&&_, cond}
-use mathlib.Core.List.{List, [], _∷_, _++_}
+use mathlib.Core.List.{List, [], _∷_, _++_, map}
 use mathlib.Core.Option.{Option, none, some}
 use lib.ListN.{length, getD, take, drop, replicate}
 use lib.Dec.{eqb, leb, ltb}
-use Rattle.rules.specs.Sizes.{max-session}
-use Rattle.rules.specs.Bytes.{Header, byte, header, header-size, in-range, opens, Operand, width, limit, Command, Form, commands, form-of, widths, values}
+use Rattle.rules.specs.Sizes.{max-session, max-steps}
+use Rattle.rules.specs.Bytes.{Header, byte, header, header-size, in-range, opens, Operand, width, limit, Command, Begin, Read, Write, Submit, Take, Decide, Apply, GiveUp, Form, commands, form-of, widths, values}
 use Rattle.rules.specs.Steps.{Checked, pass, refuse}
 use Rattle.rules.specs.Demand3.{session-commands}
 use Rattle.rules.specs.Calls.{Part}
@@ -217,6 +217,28 @@ commands-of (i ∷ is) = with-command (form (i .number)) (i .operands) (commands
 abbrev pub ReadRun : List ℕ → Type 0
 ReadRun b = (g : Heading) (is : List Instruction) → read b ≡ session g is → (header-of g ≡ header b) × (commands-of is ≡ session-commands b)
 
+-- a command as a step by itself
+abbrev pub as-step : Command → Instruction
+as-step (Begin t) = record { number = 1; operands = t ∷ 0 ∷ 0 ∷ [] }
+as-step (Read t k) = record { number = 2; operands = t ∷ k ∷ 0 ∷ [] }
+as-step (Write t k v) = record { number = 3; operands = t ∷ k ∷ v ∷ [] }
+as-step (Submit t) = record { number = 4; operands = t ∷ 0 ∷ 0 ∷ [] }
+as-step (Take n) = record { number = 5; operands = n ∷ 0 ∷ 0 ∷ [] }
+as-step (Decide t) = record { number = 6; operands = t ∷ 0 ∷ 0 ∷ [] }
+as-step (Apply n t) = record { number = 7; operands = n ∷ t ∷ 0 ∷ [] }
+as-step (GiveUp t) = record { number = 8; operands = t ∷ 0 ∷ 0 ∷ [] }
+
+-- By the table it is that command; and what is read are a session's commands so.
+abbrev pub AsSteps : Type 0
+AsSteps = (cs : List Command) → commands-of (map as-step cs) ≡ cs
+
+abbrev pub ReadSteps : List ℕ → Type 0
+ReadSteps b = (g : Heading) (is : List Instruction) → read b ≡ session g is → is ≡ map as-step (session-commands b)
+
+-- No session has more steps.
+abbrev pub FewSteps : List ℕ → Type 0
+FewSteps b = (g : Heading) (is : List Instruction) → read b ≡ session g is → length is ≤ max-steps
+
 -- ---- The calls: the answer, and the room lent after the call
 
 -- a list of steps in words, four to a step: the number, then the operands; what is left over is a step cut short, which fits no command
@@ -276,3 +298,18 @@ abbrev pub WordsAgain : Heading → List ℕ → Type 0
 WordsAgain g ws =
     (b room : List ℕ) → write g (instructions ws) ≡ bytes b → length ws ≤ length room
     → read-call b room ≡ record { outcome = listed (g .nodes) (g .sheets) (length (instructions ws)); room = ws ++ drop (length ws) room }
+
+-- a part of a session
+abbrev pub part-of : Part → List ℕ → List ℕ
+part-of p b = take (p .size) (drop (p .from) b)
+
+-- The part that is named has the header's owners.
+abbrev pub OwnersThere : List ℕ → Type 0
+OwnersThere b = opens b ≡ true → part-of (owners-part b) b ≡ heading b .owners
+
+-- The three calls together, as a host makes them: the counts and the words that reading told, with the owners where they stand, are written as the old bytes,
+-- into any room that holds them.
+abbrev pub ThreeCalls : List ℕ → Type 0
+ThreeCalls b = (words room : List ℕ) (n m q : ℕ) → read-call b words .outcome ≡ listed n m q → length b ≤ length room
+    → write-call (record { nodes = n; sheets = m; owners = part-of (owners-part b) b }) (instructions (take (q * step-words) (read-call b words .room))) room
+    ≡ record { outcome = wrote (length b); room = b ++ drop (length b) room }

@@ -6,6 +6,7 @@ use mathlib.Core.List.{List, []}
 use native.Mathlib.Omega.{arith}
 use borrow.Author.Tests.{lt-ltb, le-ltb}
 use lib.ListN.{length}
+use Rattle.rules.specs.Sizes.{max-session, min-buffer}
 use Rattle.rules.specs.Bytes.{opens}
 use Rattle.rules.specs.Report.{rows, state-lines, stop-line, refusal-line, report, Filled, report-call}
 use Rattle.rules.proofs.Sessions.{report-final}
@@ -43,22 +44,22 @@ stop-written s p n k e w = rw e w
 pub within-at : (m : ℕ) (s : Stop) (p n k : ℕ) → s ≡ Refused p n k → Within m s → p + k ≤ m
 within-at m s p n k e w = rw e at w
 
-pub offset-small : (s : Stop) (p n k : ℕ) → s ≡ Refused p n k → Within 16384 s → p ≤ 16384
-offset-small s p n k e w = omega (arith, within-at 16384 s p n k e w)
+pub offset-small : (s : Stop) (p n k : ℕ) → s ≡ Refused p n k → Within max-session s → p ≤ max-session
+offset-small s p n k e w = omega (arith, within-at max-session s p n k e w)
 
 -- ---- The buffer
 
 module _ (m : ℕ) (b w : List ℕ) (r : Walked) {l : List ℕ} where
-  pub too-short : length l < 4096 → _≡_ {A = Filled} (record { size = 0; buffer = l }) (filled (lines-of m b w r) l)
-  too-short h = rw (lt-ltb (length l) 4096 h)
+  pub too-short : length l < min-buffer → _≡_ {A = Filled} (record { size = 0; buffer = l }) (filled (lines-of m b w r) l)
+  too-short h = rw (lt-ltb (length l) min-buffer h)
 
-  module _ {k n : List ℕ} {e z : ℕ} (h : 4096 ≤ length l) (small : 891 + 35 * m ≤ 4096)
+  module _ {k n : List ℕ} {e z : ℕ} (h : min-buffer ≤ length l) (small : 891 + 35 * m ≤ min-buffer)
       (p : Wrote l 0 (state-lines (view m (bytes m b) [] [] w (figures (r .tally)))) (867 + 35 * m) e k) (q : Wrote k e (stop-line (stop-of (r .stop))) 24 z n) where
     both : Wrote l 0 (lines-of m b w r) (891 + 35 * m) z n
     both = wrote-next refl (omega arith) p q
 
     pub written : _≡_ {A = Filled} (record { size = z; buffer = n }) (filled (lines-of m b w r) l)
-    written = wrote-front both (omega arith) ∙ rw (le-ltb (length l) 4096 h)
+    written = wrote-front both (omega arith) ∙ rw (le-ltb (length l) min-buffer h)
 
     pub inside : z ≤ length l
     inside = omega (arith, wrote-end both)
@@ -74,8 +75,8 @@ module _ {b : List ℕ} (o : opens b ≡ true) {m : ℕ} {x : Slices} {r : Walke
   unfolding report-call
   reported l e = e ∙ ap (λ t. filled t l) text-is
 
-  pub stop-near : Within 16384 (r .stop)
-  stop-near = within-less (length b) 16384 (r .stop) (opens-has b o .0 .size) (v .within)
+  pub stop-near : Within max-session (r .stop)
+  stop-near = within-less (length b) max-session (r .stop) (opens-has b o .0 .size) (v .within)
 
   pub answered : {e : Ended} {z : ℕ} {l : Reply} → l ≡ reply-to (r .last) → e ≡ record { size = z; last = l; stop = r .stop } → Answered b e
   answered el ee = rw (ee, el) record { stops = ap (λ f. f .stop) (v .same); replies = ap (λ f. f .last) (v .same); within = v .within }

@@ -6,6 +6,7 @@ use mathlib.Core.List.{List, [], _∷_}
 use mathlib.Core.Option.{Option, none, some}
 use native.Mathlib.Omega.{arith}
 use lib.ListN.{length, getD, take, drop, length-drop}
+use Rattle.rules.specs.Sizes.{max-commands}
 use Rattle.rules.specs.Bytes.{opens, byte, Front, whole, stopped}
 use Rattle.rules.specs.State.{State, fresh}
 use Rattle.rules.proofs.Sessions.{session-final}
@@ -66,7 +67,7 @@ module _ {b : List ℕ} (o : opens b ≡ true) {m : ℕ} {x : Slices} {tally : T
   abbrev here : State
   here = shown m x (figures tally)
 
-  counted : tally .accepted ≤ 8192
+  counted : tally .accepted ≤ max-commands
   counted = omega (arith, v .going .counted, v .going .within, opens-has b o .0 .size)
 
   known-here : Known here

@@ -37,7 +37,7 @@ pub record Carried (b : List ℕ) (m : ℕ) (x : Slices) (r : Walked) : Type 0 w
 
 -- ---- The report
 
--- a text at the front of a buffer; one under 4,096 bytes is left alone
+-- a text at the front of a buffer; one that is too short is left alone
 abbrev pub filled : (text buffer : List ℕ) → Filled
 filled text buffer = cond (ltb (length buffer) min-buffer) (record { size = 0; buffer = buffer }) (in-front text buffer)
 

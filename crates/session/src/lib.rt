@@ -13,14 +13,12 @@ ghost use Rattle.wire.specs.declared.Opened.the-variants.{Header};
 ghost use Rattle.session.specs.Meaning.{refusal-in, reply-to, stop-of};
 ghost use Rattle.session.specs.Looping.{Begins};
 ghost use Rattle.session.specs.Carried.{Within, Carried, filled, lines-of, Answered};
+use limits::MIN_BUFFER;
 use state::Answer;
 use state::Session;
 use state::Verdict;
 use tally::Tally;
 use wire::Next;
-
-// A report buffer has at least so many bytes.
-pub const MIN_BUFFER: usize = 4096;
 
 // Where a run stopped: at the session's end, or at a refusal with its offset, its number and the number of bytes shown.
 pub enum Stop {

@@ -4,6 +4,7 @@ ghost use mathlib.Core.Bool.{_&&_};
 ghost use mathlib.Core.List.{[]};
 ghost use Prim.Native.Nat.{_+_, _*_, _<_, _≤_};
 ghost use lib.Dec.{eqb};
+ghost use Rattle.rules.specs.Sizes.{max-sheets};
 ghost use Rattle.rules.specs.State.{is-second, wide};
 ghost use Rattle.rules.specs.Showing as rules;
 ghost use Rattle.rules.specs.Report.{state-lines};
@@ -230,13 +231,13 @@ fn node_lines(room: &mut [u8], at: usize, b: &[u8], m: usize) -> usize
 
 // The report's lines, made aside where they fit and copied.
 fn report_lines(room: &mut [u8], b: &[u8], w: &[u32], m: usize, tally: Tally) -> usize
-    requires { ⌜ Ready m (bytes m (now b)) × Trimmed (bytes m (now b)) × Lined (bytes m (now b)) × Table 2 m (now w) × (m ≤ 64) ⌝ }
+    requires { ⌜ Ready m (bytes m (now b)) × Trimmed (bytes m (now b)) × Lined (bytes m (now b)) × Table 2 m (now w) × (m ≤ max-sheets) ⌝ }
     ensures { λ r. ⌜
         Wrote (now (room .entry)) 0 (state-lines (view m (bytes m (now (b .entry))) [] [] (now (w .entry)) (figures tally)))
         (867 + 35 * m) r (now (room .exit))
         ⌝ }
 {
-    let mut lines = [0u8; 3107];
+    let mut lines = [0u8; rows::MOST_LINES];
     let e = rows::state_lines(
         &mut lines,
         0,

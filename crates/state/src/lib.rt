@@ -47,14 +47,14 @@ pub struct Session {}
 
 impl Session {
     // At most so many of each in one session.
-    pub const NODES: usize = 8;
+    pub const NODES: usize = limits::MAX_NODES;
 
-    pub const SHEETS: usize = 64;
+    pub const SHEETS: usize = limits::MAX_SHEETS;
 
-    pub const SAVES: usize = 32;
+    pub const SAVES: usize = limits::MAX_SAVES;
 
     // Save numbers are below this, as sheet numbers are below the header's count.
-    pub const SAVE_NUMBERS: u8 = 32;
+    pub const SAVE_NUMBERS: u8 = Session::SAVES as u8;
 
     // The sizes of the slices for as many sheets as a session may have.
     pub const BYTES: usize = Session::OWNER + 2 * Session::SHEETS + 2 * Session::COPIES;

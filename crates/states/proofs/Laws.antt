@@ -6,6 +6,7 @@ use mathlib.Core.List.{List, []}
 use native.Mathlib.Omega.{arith}
 use borrow.Author.Tests.{le-ltb}
 use lib.ListN.{length}
+use Rattle.rules.specs.Sizes.{max-sheets, max-state}
 use Rattle.rules.specs.Bytes.{opens}
 use Rattle.rules.specs.Report.{Filled}
 use Rattle.rules.specs.Writing as lists
@@ -35,20 +36,20 @@ fits {x = x} {room = room} w h p =
     rw (le-ltb (length room) (length x) (omega (arith, q, h))) (ap (λ (r : Filled). record { outcome = lists.wrote (r .size); room = r .buffer }) f)
 
 -- in so much room any text fits
-pub fits-all : (m : ℕ) {x room after : List ℕ} {e : ℕ} → m ≤ 64 → 524288 ≤ length room → Wrote room 0 x (text-room m) e after → record { outcome = lists.wrote e; room = after } ≡ fitted x room
+pub fits-all : (m : ℕ) {x room after : List ℕ} {e : ℕ} → m ≤ max-sheets → max-state ≤ length room → Wrote room 0 x (text-room m) e after → record { outcome = lists.wrote e; room = after } ≡ fitted x room
 fits-all m h k p = let q = length-is p in fits p (omega (arith, q, p .short)) p
 
 -- no text is longer
-pub room-enough : (m : ℕ) {l k x : List ℕ} {n : ℕ} → m ≤ 64 → Wrote l 0 x (text-room m) n k → n ≤ 524288
+pub room-enough : (m : ℕ) {l k x : List ℕ} {n : ℕ} → m ≤ max-sheets → Wrote l 0 x (text-room m) n k → n ≤ max-state
 room-enough m h w = omega (arith, length-is w, w .short)
 
-pub text-short : (m : ℕ) {l k x : List ℕ} {n : ℕ} → m ≤ 64 → Wrote l 0 x (text-room m) n k → length x ≤ 524288
+pub text-short : (m : ℕ) {l k x : List ℕ} {n : ℕ} → m ≤ max-sheets → Wrote l 0 x (text-room m) n k → length x ≤ max-state
 text-short m h w = omega (arith, w .short)
 
 -- ---- The walk's state
 
 module _ {b : List ℕ} (o : opens b ≡ true) {m : ℕ} {x : Slices} {r : Walked} (v : Carried b m x r) where
-  pub shows : m ≤ 64 → Shows m (x .bytes) (x .value) (x .seen) (x .sheets)
+  pub shows : m ≤ max-sheets → Shows m (x .bytes) (x .value) (x .seen) (x .sheets)
   shows h = record {
     ready = v .ready;
     trimmed = v .fit .hints .trimmed;
@@ -64,7 +65,7 @@ module _ {b : List ℕ} (o : opens b ≡ true) {m : ℕ} {x : Slices} {r : Walke
   unfolding state-call final
   called room = sym (rw o (ap (λ f. fitted (state-text (f .state)) room) (v .same)))
 
-  pub short-so : length (state-text (shown m x (figures (r .tally)))) ≤ 524288 → ShortText b
+  pub short-so : length (state-text (shown m x (figures (r .tally)))) ≤ max-state → ShortText b
   unfolding final
   short-so h _ = rw (← ap (λ (f : Final). f .state) (v .same)) at h
 

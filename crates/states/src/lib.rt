@@ -14,12 +14,10 @@ ghost use Rattle.tally.specs.Figures.{figures};
 ghost use Rattle.showing.specs.Shows.{Shows};
 ghost use Rattle.states.specs.Short.{ShortText};
 use codes::Placed;
+use limits::MAX_STATE;
 use state::Session;
 use tally::Tally;
 use wire::Opened;
-
-// No state's text is longer.
-const MOST: usize = 524288;
 
 // The text of the slices' state, if it fits. Any does in so much room; else it is asked first how long it is, which the writer tells where it
 // is lent none.
@@ -42,7 +40,7 @@ fn fill(
         length (state-text (shown m (slices (now (b .entry)) [] (now (value .entry)) (now (seen .entry)) (now (w .entry))) (figures tally))) ≤ max-state
         ⌝ }
 {
-    if MOST <= room.len() {
+    if MAX_STATE <= room.len() {
         let e = showing::text(room, b, value, seen, w, m, tally);
         return Placed::Whole(e);
     }
@@ -56,7 +54,7 @@ fn fill(
 }
 
 // Carries a session with this header through, and writes the state that it leads to.
-pub fn show(session: &[u8], room: &mut [u8], nodes: u8, sheets: u16) -> Placed
+fn show(session: &[u8], room: &mut [u8], nodes: u8, sheets: u16) -> Placed
     requires { ⌜ Header nodes sheets ≡ opened (now session) ⌝ }
     ensures { λ r. ⌜ record { outcome = outcome-of r; room = now (room .exit) } ≡ state-call (now (session .entry)) (now (room .entry)) ⌝ }
     ensures small { λ r. ⌜ Small r ⌝ }

@@ -7,13 +7,12 @@ ghost use lib.Dec.{ltb};
 ghost use Rattle.rules.specs.Table.{all};
 ghost use Rattle.rules.specs.Bytes as rules;
 ghost use Rattle.wire.specs.Meaning.{front-of, front-in, operand-bytes, contents, write-of, opened};
+use limits::MAX_SESSION;
 
-// The sizes of one session, which `read_header` tests.
-const MAX_SESSION: usize = 16384;
+// The limits of a header's counts, in their types.
+const MAX_NODES: u8 = limits::MAX_NODES as u8;
 
-const MAX_NODES: u8 = 8;
-
-const MAX_SHEETS: u16 = 64;
+const MAX_SHEETS: u16 = limits::MAX_SHEETS as u16;
 
 // A command with its operands. A sheet number, one byte in a session, has 16 bits from here on. WRITE's content stands before its sheet: a
 // command of eight bytes would be moved as one number, and taken apart again in every arm of a step.

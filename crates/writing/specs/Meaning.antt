@@ -1,5 +1,5 @@
 -- What the writer's types and numbers mean in the rules.
-use Prim.Native.Nat.{ℕ, min, _≤_}
+use Prim.Native.Nat.{ℕ, suc, min, _≤_}
 use mathlib.Core.Path.{_≡_}
 use mathlib.Core.List.{List}
 use mathlib.Core.Option.{none, some}
@@ -22,7 +22,7 @@ number-of (refuse n) = n
 
 -- one more byte than a session may have: it stands for every larger number
 abbrev pub too-many : ℕ
-too-many = 16385
+too-many = suc max-session
 
 -- the steps' number and bytes, where none is refused
 abbrev pub Sizes : (nodes sheets : ℕ) → List rules.Instruction → Sized → Type 0

@@ -1,6 +1,9 @@
 // Writing a session: a header and a list of steps, in words, as bytes. First everything is tested, then written.
 use forms::Kind;
 use forms::STEP_WORDS;
+use limits::MAX_NODES;
+use limits::MAX_SESSION;
+use limits::MAX_SHEETS;
 ghost use mathlib.Core.Path.{_≡_};
 ghost use mathlib.Core.List.{List, [], _∷_};
 ghost use Prim.Native.Nat.{ℕ, _+_, _<_, _≤_, min};
@@ -12,12 +15,6 @@ ghost use Rattle.rules.specs.Writing as rules;
 ghost use Rattle.forms.specs.Slots.{step, operand-of, slot-width};
 ghost use Rattle.text.specs.Wrote.{Wrote};
 ghost use Rattle.writing.specs.Meaning.{heading-of, number-of, Sizes, steps-of, session-of, Passes, outcome-of, too-many, Small};
-
-const MAX_SESSION: usize = 16384;
-
-const MAX_NODES: usize = 8;
-
-const MAX_SHEETS: usize = 64;
 
 // How many bytes were written, or a refusal with its place.
 pub enum Written {

@@ -1,6 +1,7 @@
 -- Refusal 1, or the list of the pass; that it is the answer call's on each prefix is the rules' theorem.
 use mathlib.Core.Path.{sym, _∙_}
 use Rattle.rules.proofs.Answers.{each-prefix}
+use Rattle.rules.proofs.Few.{few-answers}
 use Rattle.codes.proofs.Laws.{placed-told}
 use Rattle.answers.proofs.Lists.{answers-of, no-answers}
 use borrow.Author.Needs.{needs}
@@ -26,7 +27,7 @@ placed-code-requires : tie.Need-placed-code-requires
 placed-code-requires c κs = c .before .before .tell-all .ensures .1
 
 returns : tie.Need-returns
-returns c = (no-answers _ (sym (c .before .enum-told .given .1) ∙ c .before .before .before .read-header .ensures) (c .code .ensures), each-prefix (c .before .before .before .before .before .before .args .session .now))
+returns c = (no-answers _ (sym (c .before .enum-told .given .1) ∙ c .before .before .before .read-header .ensures) (c .code .ensures), (each-prefix (c .before .before .before .before .before .before .args .session .now), few-answers (c .before .before .before .before .before .before .args .session .now)))
 
 same-length : tie.Need-same-length
 same-length c = search needs
@@ -34,7 +35,7 @@ same-length c = search needs
 returns-2 : tie.Need-returns-2
 returns-2 c =
     let e = sym (c .before .before .before .before .before .before .header .given .1) ∙ c .before .before .before .before .before .before .before .before .read-header .ensures in
-    (placed-told (c .before .before .before .tell-all .result) (c .before .before .before .tell-all .ensures .0 ∙ answers-of (c .before .before .before .before .before .before .before .before .before .before .before .args .session .now) (c .before .before .before .before .before .before .before .before .before .before .before .args .list .now) _ _ e) (c .placed-code .ensures), each-prefix (c .before .before .before .before .before .before .before .before .before .before .before .args .session .now))
+    (placed-told (c .before .before .before .tell-all .result) (c .before .before .before .tell-all .ensures .0 ∙ answers-of (c .before .before .before .before .before .before .before .before .before .before .before .args .session .now) (c .before .before .before .before .before .before .before .before .before .before .before .args .list .now) _ _ e) (c .placed-code .ensures), (each-prefix (c .before .before .before .before .before .before .before .before .before .before .before .args .session .now), few-answers (c .before .before .before .before .before .before .before .before .before .before .before .args .session .now)))
 
 pub cusphewa-answers-spec : {M : Type 1} → statement M
 cusphewa-answers-spec =

@@ -1,5 +1,7 @@
--- Behind the two counts, where the session opens.
+-- Behind the two counts, where the session opens; what a host makes of it is the rules' theorem.
 use mathlib.Core.Path.{sym, _∙_}
+use native.Mathlib.Omega.{arith}
+use Rattle.rules.proofs.Writing.{owners-there, three-calls}
 use Rattle.cusphewa.proofs.Lists.{no-owners, owners-at}
 use borrow.Author.Needs.{needs}
 use Rattle.cusphewa.proofs.cusphewa_owners.Statement.{statement}
@@ -24,10 +26,10 @@ add-result : tie.Need-add-result
 add-result c = search needs
 
 returns : tie.Need-returns
-returns c = no-owners _ (sym (c .enum-told .given .1) ∙ c .before .before .read-header .ensures)
+returns c = (no-owners _ (sym (c .enum-told .given .1) ∙ c .before .before .read-header .ensures), (owners-there _, three-calls _ (λ i. omega (arith, c .before .before .before .shared-slice-known .given i))))
 
 returns-2 : tie.Need-returns-2
-returns-2 c = owners-at _ _ _ (sym (c .before .header .given .1) ∙ c .before .before .before .read-header .ensures)
+returns-2 c = (owners-at _ _ _ (sym (c .before .header .given .1) ∙ c .before .before .before .read-header .ensures), (owners-there _, three-calls _ (λ i. omega (arith, c .before .before .before .before .shared-slice-known .given i))))
 
 pub cusphewa-owners-spec : {M : Type 1} → statement M
 cusphewa-owners-spec =

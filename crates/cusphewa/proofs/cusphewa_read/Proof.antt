@@ -1,8 +1,7 @@
 -- The answer's number; the theorems are the rules', of a slice's bytes.
 use mathlib.Core.Path.{_∙_}
 use native.Mathlib.Omega.{arith}
-use Rattle.rules.proofs.Writing.{read-written, read-run}
-use Rattle.cusphewa.proofs.Lists.{read-told, read-small}
+use Rattle.cusphewa.proofs.Lists.{read-told, read-small, of-bytes}
 use borrow.Author.Needs.{needs}
 use Rattle.cusphewa.proofs.cusphewa_read.Statement.{statement}
 use Rattle.cusphewa.proofs.cusphewa_read.Tie as tie
@@ -51,13 +50,13 @@ same-length : tie.Need-same-length
 same-length c = search needs
 
 returns : tie.Need-returns
-returns c = (read-told _ _ (c .before .before .read2 .given .1) (c .before .before .before .before .before .before .read .ensures .0) (c .code .ensures), (read-written _ (λ i. omega (arith, c .before .before .before .before .before .before .before .before .before .shared-slice-known .given i)), read-run _))
+returns c = (read-told _ _ (c .before .before .read2 .given .1) (c .before .before .before .before .before .before .read .ensures .0) (c .code .ensures), of-bytes _ (λ i. omega (arith, c .before .before .before .before .before .before .before .before .before .shared-slice-known .given i)))
 
 same-length-2 : tie.Need-same-length-2
 same-length-2 c = search needs
 
 returns-2 : tie.Need-returns-2
-returns-2 c = (read-told _ _ (c .before .before .before .read3 .given .1) (c .before .before .before .before .before .before .before .read .ensures .0) (c .code2 .ensures ∙ rw (c .before .place .ensures)), (read-written _ (λ i. omega (arith, c .before .before .before .before .before .before .before .before .before .before .shared-slice-known .given i)), read-run _))
+returns-2 c = (read-told _ _ (c .before .before .before .read3 .given .1) (c .before .before .before .before .before .before .before .read .ensures .0) (c .code2 .ensures ∙ rw (c .before .place .ensures)), of-bytes _ (λ i. omega (arith, c .before .before .before .before .before .before .before .before .before .before .shared-slice-known .given i)))
 
 pub cusphewa-read-spec : {M : Type 1} → statement M
 cusphewa-read-spec =

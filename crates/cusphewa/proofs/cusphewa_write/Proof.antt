@@ -2,6 +2,7 @@
 use mathlib.Core.Path.{_∙_}
 use native.Mathlib.Omega.{arith}
 use Rattle.rules.proofs.Writing.{written-read, words-again, one-writing, one-list}
+use Rattle.rules.proofs.AgreeingSteps.{writes-as-run, written-runs}
 use Rattle.cusphewa.proofs.Lists.{wrote-told, wrote-small}
 use borrow.Author.Needs.{needs}
 use Rattle.cusphewa.proofs.cusphewa_write.Statement.{statement}
@@ -33,7 +34,7 @@ same-length c = search needs
 returns : tie.Need-returns
 returns c =
     let a = c .before .before .before .before .before .before .before .before .before .before .before .args in
-    (wrote-told _ _ (c .before .before .written .given .1) (c .before .before .before .before .before .before .write .ensures .0) (c .code .ensures), (written-read _ _, (words-again _ (a .steps .now), (one-writing _ _, one-list _ _))))
+    (wrote-told _ _ (c .before .before .written .given .1) (c .before .before .before .before .before .before .write .ensures .0) (c .code .ensures), (written-read _ _, (words-again _ (a .steps .now), (one-writing _ _, (one-list _ _, (writes-as-run, written-runs _ _))))))
 
 same-length-2 : tie.Need-same-length-2
 same-length-2 c = search needs
@@ -41,7 +42,7 @@ same-length-2 c = search needs
 returns-2 : tie.Need-returns-2
 returns-2 c =
     let a = c .before .before .before .before .before .before .before .before .before .before .before .before .args in
-    (wrote-told _ _ (c .before .before .before .written2 .given .1) (c .before .before .before .before .before .before .before .write .ensures .0) (c .code2 .ensures ∙ rw (c .before .place .ensures)), (written-read _ _, (words-again _ (a .steps .now), (one-writing _ _, one-list _ _))))
+    (wrote-told _ _ (c .before .before .before .written2 .given .1) (c .before .before .before .before .before .before .before .write .ensures .0) (c .code2 .ensures ∙ rw (c .before .place .ensures)), (written-read _ _, (words-again _ (a .steps .now), (one-writing _ _, (one-list _ _, (writes-as-run, written-runs _ _))))))
 
 pub cusphewa-write-spec : {M : Type 1} → statement M
 cusphewa-write-spec =
