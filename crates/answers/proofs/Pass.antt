@@ -13,8 +13,7 @@ use Rattle.rules.specs.Steps.{check, pass, refuse, effect, answer}
 use Rattle.rules.specs.Calls.{answers, refusal}
 use Rattle.rules.specs.Calls as calls
 use Rattle.rules.specs.Answers.{replies, session-replies}
-use Rattle.text.specs.Wrote.{Wrote}
-use Rattle.text.proofs.Writing.{wrote-none, wrote-as, wrote-next}
+use Rattle.text.proofs.Writing.{wrote-none, wrote-next}
 use Rattle.clipped.proofs.Laws.{wrote-within}
 use Rattle.wire.specs.declared.Next.{Next}
 use Rattle.wire.specs.declared.Next.the-variants.{Step, Unknown, Cut, End}
@@ -38,7 +37,20 @@ use Rattle.session.specs.Looping.{Begins, Looping}
 use Rattle.session.proofs.Needs as needs
 use Rattle.session.proofs.Turn.{moved, stayed}
 use Rattle.codes.specs.Codes.{answer-code, NearReply}
-use Rattle.answers.specs.Telling.{rest, Telling}
+use Rattle.codes.specs.Decoding.{answer-of}
+use Rattle.answers.specs.Telling.{Numbered, rest, Telling}
+
+-- ---- Answers told
+
+none-told : (l : List ℕ) (a : ℕ) → Numbered l a [] 0 a l
+none-told l a = record { wrote = wrote-none l a; again = refl }
+
+-- more of them, in a room for all
+told-next : {l m k : List ℕ} {us vs ws : List calls.Reply} {a p n x y z : ℕ} → us ++ vs ≡ ws → x + y ≤ z → Numbered l a us x p m → Numbered m p vs y n k → Numbered l a ws z n k
+told-next {us = us} {vs = vs} e h f g = record {
+  wrote = wrote-next (sym (map-append answer-code us vs) ∙ ap (map answer-code) e) h (f .wrote) (g .wrote);
+  again = rw (← e, map-append answer-code us vs, map-append answer-of (map answer-code us) (map answer-code vs), f .again, g .again);
+}
 
 -- ---- The start
 
@@ -48,7 +60,7 @@ starts {b} {m} g {tally} f l = record {
   last = reply.NoCommand;
   looping = needs.starts g f;
   done = [];
-  wrote = wrote-none l 0;
+  listed = none-told l 0;
   same = rw (f, g .shows, g .sheets-are);
   few = omega arith;
 }
@@ -87,17 +99,13 @@ module _ {b : List ℕ} (o : opens b ≡ true) {m : ℕ} {x : Slices} {tally : T
   near l = omega (arith, opens-has b o .0 .size)
 
   -- the list is complete with these answers
-  ended-by : {l : List ℕ} {n : ℕ} (us : List calls.Reply) → rest b here p ≡ us → Wrote after count (map answer-code us) (length us) n l → p + length us ≤ length b → length us ≤ 1
-      → Wrote before 0 (map answer-code (session-replies b)) max-commands n l
-  ended-by us e w q h =
-      wrote-next
-      (sym (map-append answer-code (v .done) us) ∙ ap (map answer-code) (ap (λ t. v .done ++ t) (sym e) ∙ v .same))
-      (omega (arith, v .few, opens-has b o .0 .size))
-      (v .wrote) w
+  ended-by : {l : List ℕ} {n : ℕ} (us : List calls.Reply) → rest b here p ≡ us → Numbered after count us (length us) n l → p + length us ≤ length b → length us ≤ 1
+      → Numbered before 0 (session-replies b) max-commands n l
+  ended-by us e w q h = told-next (ap (λ t. v .done ++ t) (sym e) ∙ v .same) (omega (arith, v .few, opens-has b o .0 .size)) (v .listed) w
 
   -- with a refusal
-  refused-by : {l : List ℕ} {n k : ℕ} → rest b here p ≡ refusal p k ∷ [] → p < length b → Wrote after count (answer-code (reply-of (reply.Refused p k)) ∷ []) 1 n l
-      → Wrote before 0 (map answer-code (session-replies b)) max-commands n l
+  refused-by : {l : List ℕ} {n k : ℕ} → rest b here p ≡ refusal p k ∷ [] → p < length b → Numbered after count (reply-of (reply.Refused p k) ∷ []) 1 n l
+      → Numbered before 0 (session-replies b) max-commands n l
   refused-by {k = k} e h w = ended-by (refusal p k ∷ []) e w (omega arith) (omega arith)
 
   module _ (next : Next) (e : front-of next ≡ front-in (take (length b - p) (drop p b))) where
@@ -119,46 +127,45 @@ module _ {b : List ℕ} (o : opens b ≡ true) {m : ℕ} {x : Slices} {tally : T
 
       module _ {x′ : Slices} {a : Answer} (s : Steps (shown m x) (command-of c) (shown m x′) a) (z : Fit m x′) where
         pub goes-on : refusal-in a ≡ 0 → {t : Tally} → figures t ≡ advanced (figures tally) a → {r : Reply} → r ≡ reply-to a → {l : List ℕ} {n : ℕ}
-            → Wrote after count (answer-code (reply-of r) ∷ []) 1 n l → Telling b m x′ t (p + 1 + w) before l n
+            → Numbered after count (reply-of r ∷ []) 1 n l → Telling b m x′ t (p + 1 + w) before l n
         goes-on n f {r = r} er {l = l} {n = k} told =
             let y = moved here (shown m x′ (advanced (figures tally) a)) (command-of c) a (s .equation (figures tally)) n in
             let g : rest b here p ≡ reply-of r ∷ rest b (effect here (command-of c)) (p + 1 + w) =
             ap (λ (t : Reading). replies here (t .steps) (t .stop)) reads-this ∙ replies-accepts here this onward (y .passed)
             ∙ ap (λ u. u ∷ rest b (effect here (command-of c)) (p + 1 + w)) (sym (ap reply-of er ∙ y .reply)) in
-            let one : k ≡ count + 1 = told .ends in
-            let all : Wrote before 0 (map answer-code (v .done ++ reply-of r ∷ [])) (count + 1) k l = wrote-next (sym (map-append answer-code (v .done) (reply-of r ∷ []))) (omega arith) (v .wrote) told in
+            let one : k ≡ count + 1 = told .wrote .ends in
             record {
               last = reply-to a;
               looping = needs.goes-on o (v .looping) next e q s z n f;
               done = v .done ++ reply-of r ∷ [];
-              wrote = wrote-as refl (omega (arith, all .short, one)) all;
+              listed = told-next refl (omega (arith, one)) (v .listed) told;
               same = append-assoc (v .done) (reply-of r ∷ []) (rest b (shown m x′ (figures _)) (p + 1 + w))
                   ∙ ap (λ u. v .done ++ reply-of r ∷ rest b u (p + 1 + w)) (rw f (y .state))
                   ∙ ap (λ u. v .done ++ u) (sym g) ∙ v .same;
               few = omega (arith, v .few, has-operands b p (command-of c) w whole-here, one);
             }
 
-        pub stops : (refusal-in a ≡ 0 → ⊥) → {l : List ℕ} {n : ℕ} → Wrote after count (answer-code (reply-of (reply.Refused p (refusal-in a))) ∷ []) 1 n l
-            → Wrote before 0 (map answer-code (session-replies b)) max-commands n l
+        pub stops : (refusal-in a ≡ 0 → ⊥) → {l : List ℕ} {n : ℕ} → Numbered after count (reply-of (reply.Refused p (refusal-in a)) ∷ []) 1 n l
+            → Numbered before 0 (session-replies b) max-commands n l
         stops n w′ =
             let y = stayed here (shown m x′ (advanced (figures tally) a)) (command-of c) a (s .equation (figures tally)) n in
             refused-by (ap (λ (t : Reading). replies here (t .steps) (t .stop)) reads-this ∙ replies-refuses here this onward (refusal-in a) (y .refused)) (omega (arith, fits)) w′
 
     -- ---- The end
 
-    pub unknown-there : next ≡ Unknown → p < length b → {l : List ℕ} {n : ℕ} → Wrote after count (answer-code (reply-of (reply.Refused p 2)) ∷ []) 1 n l
-        → Wrote before 0 (map answer-code (session-replies b)) max-commands n l
+    pub unknown-there : next ≡ Unknown → p < length b → {l : List ℕ} {n : ℕ} → Numbered after count (reply-of (reply.Refused p 2) ∷ []) 1 n l
+        → Numbered before 0 (session-replies b) max-commands n l
     unknown-there q h w = refused-by (replies-ends here (at-unknown b p (needs.found o (v .looping) next e (ap front-of q)))) h w
 
-    pub cut-there : next ≡ Cut → p < length b → {l : List ℕ} {n : ℕ} → Wrote after count (answer-code (reply-of (reply.Refused p 3)) ∷ []) 1 n l
-        → Wrote before 0 (map answer-code (session-replies b)) max-commands n l
+    pub cut-there : next ≡ Cut → p < length b → {l : List ℕ} {n : ℕ} → Numbered after count (reply-of (reply.Refused p 3) ∷ []) 1 n l
+        → Numbered before 0 (session-replies b) max-commands n l
     cut-there q h w = refused-by (replies-ends here (at-cut b p (needs.found o (v .looping) next e (ap front-of q)))) h w
 
-    pub ends-there : next ≡ End → Wrote before 0 (map answer-code (session-replies b)) max-commands count after
-    ends-there q = ended-by [] (nothing-left here (at-end b p (needs.found o (v .looping) next e (ap front-of q)))) (wrote-none after count) (omega (arith, v .looping .going .within)) (omega arith)
+    pub ends-there : next ≡ End → Numbered before 0 (session-replies b) max-commands count after
+    ends-there q = ended-by [] (nothing-left here (at-end b p (needs.found o (v .looping) next e (ap front-of q)))) (none-told after count) (omega (arith, v .looping .going .within)) (omega arith)
 
   -- nothing is left
-  pub finished : length b ≤ p → Wrote before 0 (map answer-code (session-replies b)) max-commands count after
+  pub finished : length b ≤ p → Numbered before 0 (session-replies b) max-commands count after
   finished h = ends-there End (sym (nothing (take (length b - p) (drop p b)) (ap length (rest-of b p) ∙ length-drop p b ∙ omega arith))) refl
 
 -- no refusal's offset is in an accepted command's answer

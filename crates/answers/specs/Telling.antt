@@ -15,6 +15,12 @@ use Rattle.tally.specs.Figures.{figures}
 use Rattle.session.specs.declared.Reply.{Reply}
 use Rattle.session.specs.Looping.{Looping}
 use Rattle.codes.specs.Codes.{answer-code}
+use Rattle.codes.specs.Decoding.{answer-of}
+
+-- The numbers of these answers were stored from `at` on, and a host reads them as these answers. `end` is the place behind them.
+pub record Numbered (before : List ℕ) (at : ℕ) (told : List calls.Reply) (room end : ℕ) (after : List ℕ) : Type 0 where
+  pub wrote : Wrote before at (map answer-code told) room end after
+  pub again : map answer-of (map answer-code told) ≡ told
 
 -- the answers from offset p on, in state s
 abbrev pub rest : List ℕ → State → (p : ℕ) → List calls.Reply
@@ -24,6 +30,6 @@ pub record Telling (b : List ℕ) (m : ℕ) (x : Slices) (tally : Tally) (p : �
   pub last : Reply  -- the last command's answer
   pub looping : Looping b m x tally last p
   pub done : List calls.Reply
-  pub wrote : Wrote before 0 (map answer-code done) count count after
+  pub listed : Numbered before 0 done count count after
   pub same : done ++ rest b (shown m x (figures tally)) p ≡ session-replies b
   pub few : 2 * count ≤ p  -- a command has two bytes at least

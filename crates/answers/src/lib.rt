@@ -5,14 +5,15 @@ ghost use Prim.Native.Nat.{_≤_, _<_};
 ghost use lib.ListN.{length, take, drop};
 ghost use Rattle.rules.specs.Sizes.{max-commands};
 ghost use Rattle.rules.specs.Answers.{EachPrefix, FewAnswers, session-replies};
-ghost use Rattle.text.specs.Wrote.{Wrote};
 ghost use Rattle.wire.specs.Meaning.{opened};
 ghost use Rattle.wire.specs.declared.Opened.the-variants.{Header};
 ghost use Rattle.state.specs.Slices.{slices};
 ghost use Rattle.session.specs.Meaning.{reply-of};
 ghost use Rattle.session.specs.Looping.{Begins};
 ghost use Rattle.codes.specs.Codes.{answer-code, NearReply, told-call, outcome-of, fitted, Small};
-ghost use Rattle.answers.specs.Meaning.{answers-call};
+ghost use Rattle.codes.specs.Decoding.{answer-of, outcome-in};
+ghost use Rattle.answers.specs.Meaning.{answers-call, AnswersAgain};
+ghost use Rattle.answers.specs.Telling.{Numbered};
 use codes::Placed;
 use limits::MAX_COMMANDS;
 use session::Reply;
@@ -24,7 +25,7 @@ use wire::Opened;
 // One answer more behind the first `count`.
 fn tell(list: &mut [u64], count: usize, r: Reply) -> usize
     requires { ⌜ (count < length (now list)) × NearReply r ⌝ }
-    ensures { λ n. ⌜ Wrote (now (list .entry)) count (answer-code (reply-of r) ∷ []) 1 n (now (list .exit)) ⌝ }
+    ensures { λ n. ⌜ Numbered (now (list .entry)) count (reply-of r ∷ []) 1 n (now (list .exit)) ⌝ }
 {
     list[count] = codes::reply_code(r);
     count + 1
@@ -42,7 +43,7 @@ fn walk(
     m: usize,
 ) -> usize
     requires { ⌜ Begins (now session) m (slices (now b) (now listed) (now value) (now seen) (now w)) × (max-commands ≤ length (now list)) ⌝ }
-    ensures { λ r. ⌜ Wrote (now (list .entry)) 0 (map answer-code (session-replies (now (session .entry)))) max-commands r (now (list .exit)) ⌝ }
+    ensures { λ r. ⌜ Numbered (now (list .entry)) 0 (session-replies (now (session .entry))) max-commands r (now (list .exit)) ⌝ }
 {
     let mut tally = Tally::new();
     let mut count: usize = 0;
@@ -88,6 +89,7 @@ fn tell_all(session: &[u8], room: &mut [u64], nodes: u8, sheets: u16) -> Placed
         record { outcome = outcome-of r; room = now (room .exit) } ≡ fitted (map answer-code (session-replies (now (session .entry)))) (now (room .entry))
         ⌝ }
     ensures small { λ r. ⌜ Small r ⌝ }
+    ensures again { λ _. ⌜ map answer-of (map answer-code (session-replies (now (session .entry)))) ≡ session-replies (now (session .entry)) ⌝ }
 {
     let mut list = [0u64; MAX_COMMANDS];
     let mut b = [0u8; Session::BYTES];
@@ -119,6 +121,8 @@ fn tell_all(session: &[u8], room: &mut [u64], nodes: u8, sheets: u16) -> Placed
 #[no_mangle]
 pub extern "C" fn cusphewa_answers(session: &[u8], list: &mut [u64]) -> u64
     ensures { λ r. ⌜ record { code = r; room = now (list .exit) } ≡ told-call (answers-call (now (session .entry)) (now (list .entry))) ⌝ }
+    ensures decoded { λ r. ⌜ outcome-in r ≡ answers-call (now (session .entry)) (now (list .entry)) .outcome ⌝ }
+    ensures answers_again { λ r. ⌜ AnswersAgain (now (session .entry)) r (now (list .exit)) ⌝ }
     ensures prefixes { λ _. ⌜ EachPrefix (now (session .entry)) ⌝ }
     ensures few { λ _. ⌜ FewAnswers (now (session .entry)) ⌝ }
 {

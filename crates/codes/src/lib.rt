@@ -1,9 +1,12 @@
 // Answers as numbers, for the host: a host in C can't take an enum.
 ghost use mathlib.Core.Path.{_≡_};
 ghost use Prim.Native.Nat.{_<_};
+ghost use Rattle.rules.specs.Steps.{took};
+ghost use Rattle.rules.specs.Calls.{answers};
 ghost use Rattle.session.specs.Meaning.{reply-of};
 ghost use Rattle.state.specs.View.{rule-of, verdict-of};
 ghost use Rattle.codes.specs.Codes.{coded, rule-code, verdict-code, answer-code, NearReply, outcome-code, outcome-of, Small};
+ghost use Rattle.codes.specs.Decoding.{answer-of, outcome-in};
 use session::Reply;
 use state::Rule;
 use state::Verdict;
@@ -30,6 +33,7 @@ fn rule_number(rule: Rule) -> u8
 // A TAKE's answer: the save, and where it was found invalid the sheet and the rule.
 fn take_code(t: u8, v: Verdict) -> u64
     ensures { λ r. ⌜ r ≡ verdict-code t (verdict-of v) ⌝ }
+    ensures decoded { λ r. ⌜ answer-of r ≡ answers (took t (verdict-of v)) ⌝ }
 {
     match v {
         Verdict::Valid => code(3, t as u64, 0),
@@ -45,6 +49,7 @@ fn take_code(t: u8, v: Verdict) -> u64
 pub fn reply_code(r: Reply) -> u64
     requires { ⌜ NearReply r ⌝ }
     ensures { λ n. ⌜ n ≡ answer-code (reply-of r) ⌝ }
+    ensures decoded { λ n. ⌜ answer-of n ≡ reply-of r ⌝ }
 {
     match r {
         Reply::NoCommand => code(0, 0, 0),
@@ -67,6 +72,7 @@ pub enum Placed {
 pub fn placed_code(p: Placed) -> u64
     requires { ⌜ Small p ⌝ }
     ensures { λ n. ⌜ n ≡ outcome-code (outcome-of p) ⌝ }
+    ensures decoded { λ n. ⌜ outcome-in n ≡ outcome-of p ⌝ }
 {
     match p {
         Placed::Whole(n) => code(8, n as u64, 0),

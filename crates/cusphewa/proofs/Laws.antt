@@ -1,6 +1,6 @@
 -- The calls' needs, each as one law in plain variables.
-use Prim.Native.Nat.{ℕ, _+_, _-_, _*_, _≤_, _<_}
-use mathlib.Core.Path.{_≡_, sym, ap, _∙_}
+use Prim.Native.Nat.{ℕ, _+_, _-_, _*_, _/_, _%_, _^_, _≤_, _<_}
+use mathlib.Core.Path.{_≡_, refl, sym, ap, _∙_}
 use mathlib.Core.List.{List, [], _∷_}
 use native.Mathlib.Omega.{arith}
 use borrow.Author.Tests.{lt-ltb, le-ltb}
@@ -32,6 +32,7 @@ use Rattle.session.specs.Meaning.{stop-of, reply-of}
 use Rattle.session.specs.Carried.{Within, Answered}
 use Rattle.session.proofs.Lines.{within-less}
 use Rattle.codes.specs.Codes.{answer-code, NearReply}
+use Rattle.codes.specs.Decoding.{answer-of, part-in}
 use Rattle.cusphewa.specs.Codes.{part-code, Near}
 
 -- ---- Where a run stops
@@ -97,6 +98,16 @@ module _ (b : List ℕ) (e : Bad ≡ opened b) where
 
 -- ---- The part shown
 
+-- the number of a part, which the host reads as that part
+abbrev pub PartTold : ℕ → calls.Part → Type 0
+PartTold c p = (c ≡ part-code p) × (part-in c ≡ p)
+
+pub part-told : {c : ℕ} (p : calls.Part) → p .size < 4294967296 → c ≡ part-code p → PartTold c p
+part-told p h e =
+    let f : part-code p / 2 ^ 32 ≡ p .from = omega arith in
+    let s : part-code p % 2 ^ 32 ≡ p .size = omega arith in
+    rw e (refl, rw (f, s))
+
 module _ (b : List ℕ) (s : Stop) (e : stop-of s ≡ calls.stop b) where
   pub shown-end : s ≡ End → take (length b - length b) (drop (length b) b) ≡ calls.shown b
   unfolding calls.part
@@ -106,13 +117,13 @@ module _ (b : List ℕ) (s : Stop) (e : stop-of s ≡ calls.stop b) where
   unfolding calls.part
   shown-part p n k q = let m : p + k - p ≡ k = omega arith in rw (← e, q, m)
 
-  pub coded-end : s ≡ End → length b * 4294967296 ≡ part-code (calls.part b)
+  pub coded-end : s ≡ End → PartTold (length b * 4294967296) (calls.part b)
   unfolding calls.part
-  coded-end q = rw (← e, q) (omega arith)
+  coded-end q = rw (← e, q) (part-told (record { from = length b; size = 0 }) (omega arith) (omega arith))
 
-  pub coded-part : (p n k : ℕ) → s ≡ Refused p n k → p * 4294967296 + k ≡ part-code (calls.part b)
+  pub coded-part : (p n k : ℕ) → s ≡ Refused p n k → p + k ≤ max-session → PartTold (p * 4294967296 + k) (calls.part b)
   unfolding calls.part
-  coded-part p n k q = rw (← e, q)
+  coded-part p n k q h = rw (← e, q) (part-told (record { from = p; size = k }) (omega arith) refl)
 
 pub near-end : (n : ℕ) (s : Stop) → s ≡ End → Near n s → n ≤ max-session
 near-end n s q w = rw q at w
@@ -120,8 +131,9 @@ near-end n s q w = rw q at w
 pub near-part : (n : ℕ) (s : Stop) (p c k : ℕ) → s ≡ Refused p c k → Near n s → p + k ≤ max-session
 near-part n s p c k q w = rw q at w
 
-pub told : (b : List ℕ) (r : Reply) {n : ℕ} → reply-of r ≡ calls.reply b → n ≡ answer-code (reply-of r) → (n ≡ answer-code (calls.reply b)) × (WhyFailed × AlwaysOrdered)
-told b r e c = (c ∙ ap answer-code e, (why-failed, ordered))
+pub told : (b : List ℕ) (r : Reply) {n : ℕ} → reply-of r ≡ calls.reply b → (n ≡ answer-code (reply-of r)) × (answer-of n ≡ reply-of r)
+    → (n ≡ answer-code (calls.reply b)) × ((answer-of n ≡ calls.reply b) × (WhyFailed × AlwaysOrdered))
+told b r e c = (c .0 ∙ ap answer-code e, (c .1 ∙ e, (why-failed, ordered)))
 
 -- ---- The buffer
 

@@ -27,6 +27,7 @@ ghost use Rattle.wire.specs.declared.Opened.the-variants.{Header};
 ghost use Rattle.session.specs.Meaning.{stop-of, reply-of};
 ghost use Rattle.session.specs.Carried.{Within, Answered};
 ghost use Rattle.codes.specs.Codes.{answer-code, NearReply, told-call, last-place};
+ghost use Rattle.codes.specs.Decoding.{answer-of, outcome-in, as-told, part-in};
 ghost use Rattle.cusphewa.specs.Codes.{part-code, Near};
 ghost use Rattle.writing.specs.Meaning.{heading-of};
 
@@ -126,6 +127,7 @@ pub fn shown(session: &[u8]) -> &[u8]
 #[no_mangle]
 pub extern "C" fn cusphewa_answer(session: &[u8]) -> u64
     ensures { λ r. ⌜ r ≡ answer-code (calls.reply (now (session .entry))) ⌝ }
+    ensures decoded { λ r. ⌜ answer-of r ≡ calls.reply (now (session .entry)) ⌝ }
     ensures why_failed { λ _. ⌜ WhyFailed ⌝ }
     ensures ordered { λ _. ⌜ AlwaysOrdered ⌝ }
 {
@@ -136,6 +138,7 @@ pub extern "C" fn cusphewa_answer(session: &[u8]) -> u64
 #[no_mangle]
 pub extern "C" fn cusphewa_shown(session: &[u8]) -> u64
     ensures { λ r. ⌜ r ≡ part-code (calls.part (now (session .entry))) ⌝ }
+    ensures decoded { λ r. ⌜ part-in r ≡ calls.part (now (session .entry)) ⌝ }
 {
     let stop = stop_of(session);
     match stop {
@@ -172,6 +175,10 @@ pub extern "C" fn cusphewa_write(
         record { code = r; room = now (session .exit) }
         ≡ told-call (lists.write-call (heading-of nodes sheets (now (owners .entry))) (lists.instructions (now (steps .entry))) (now (session .entry)))
         ⌝ }
+    ensures decoded { λ r. ⌜
+        outcome-in r
+        ≡ as-told (lists.write-call (heading-of nodes sheets (now (owners .entry))) (lists.instructions (now (steps .entry))) (now (session .entry)) .outcome)
+        ⌝ }
     ensures read_again { λ _. ⌜ lists.WrittenRead (heading-of nodes sheets (now (owners .entry))) (lists.instructions (now (steps .entry))) ⌝ }
     ensures words_again { λ _. ⌜ lists.WordsAgain (heading-of nodes sheets (now (owners .entry))) (now (steps .entry)) ⌝ }
     ensures one_writing { λ _. ⌜ lists.OneWriting (heading-of nodes sheets (now (owners .entry))) (lists.instructions (now (steps .entry))) ⌝ }
@@ -190,6 +197,7 @@ pub extern "C" fn cusphewa_write(
 #[no_mangle]
 pub extern "C" fn cusphewa_read(session: &[u8], steps: &mut [u32]) -> u64
     ensures { λ r. ⌜ record { code = r; room = now (steps .exit) } ≡ told-call (lists.read-call (now (session .entry)) (now (steps .entry))) ⌝ }
+    ensures decoded { λ r. ⌜ outcome-in r ≡ as-told (lists.read-call (now (session .entry)) (now (steps .entry)) .outcome) ⌝ }
     ensures written_again { λ _. ⌜ lists.ReadWritten (now (session .entry)) ⌝ }
     ensures run { λ _. ⌜ lists.ReadRun (now (session .entry)) ⌝ }
     ensures agrees { λ _. ⌜ Agrees (now (session .entry)) ⌝ }
@@ -210,6 +218,7 @@ pub extern "C" fn cusphewa_read(session: &[u8], steps: &mut [u32]) -> u64
 #[no_mangle]
 pub extern "C" fn cusphewa_owners(session: &[u8]) -> u64
     ensures { λ r. ⌜ r ≡ part-code (lists.owners-part (now (session .entry))) ⌝ }
+    ensures decoded { λ r. ⌜ part-in r ≡ lists.owners-part (now (session .entry)) ⌝ }
     ensures there { λ _. ⌜ lists.OwnersThere (now (session .entry)) ⌝ }
     ensures three_calls { λ _. ⌜ lists.ThreeCalls (now (session .entry)) ⌝ }
 {

@@ -24,6 +24,7 @@ use Rattle.wire.specs.declared.Opened.the-variants.{Bad}
 use Rattle.wire.specs.Meaning.{opened}
 use Rattle.wire.proofs.Opening.{unopened}
 use Rattle.codes.specs.Codes.{coded, told-call, fitted}
+use Rattle.codes.specs.Decoding.{outcome-in}
 use Rattle.codes.proofs.Laws.{length-is}
 use Rattle.states.specs.Short.{ShortText}
 
@@ -72,9 +73,9 @@ module _ {b : List ℕ} (o : opens b ≡ true) {m : ℕ} {x : Slices} {r : Walke
 -- ---- A session that earns refusal 1
 
 module _ (b : List ℕ) (e : Bad ≡ opened b) where
-  pub no-state : {room : List ℕ} {code : ℕ} → code ≡ coded 7 0 1 → record { code = code; room = room } ≡ told-call (state-call b room)
-  unfolding state-call
-  no-state k = rw (k, unopened b e)
+  pub no-state : {room : List ℕ} {code : ℕ} → code ≡ coded 7 0 1 → (record { code = code; room = room } ≡ told-call (state-call b room)) × (outcome-in code ≡ state-call b room .outcome)
+  unfolding state-call outcome-in
+  no-state k = rw (k, unopened b e) (refl, refl)
 
   pub no-text : ShortText b
   no-text o = absurd (true≢false (sym o ∙ unopened b e))

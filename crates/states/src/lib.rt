@@ -6,6 +6,7 @@ ghost use lib.ListN.{length};
 ghost use Rattle.rules.specs.Sizes.{max-state};
 ghost use Rattle.rules.specs.Showing.{GrantedAlone, state-text, state-call};
 ghost use Rattle.codes.specs.Codes.{told-call, outcome-of, fitted, Small};
+ghost use Rattle.codes.specs.Decoding.{outcome-in};
 ghost use Rattle.wire.specs.Meaning.{opened};
 ghost use Rattle.wire.specs.declared.Opened.the-variants.{Header};
 ghost use Rattle.state.specs.Slices.{slices};
@@ -85,6 +86,7 @@ fn show(session: &[u8], room: &mut [u8], nodes: u8, sheets: u16) -> Placed
 #[no_mangle]
 pub extern "C" fn cusphewa_state(session: &[u8], room: &mut [u8]) -> u64
     ensures { λ r. ⌜ record { code = r; room = now (room .exit) } ≡ told-call (state-call (now (session .entry)) (now (room .entry))) ⌝ }
+    ensures decoded { λ r. ⌜ outcome-in r ≡ state-call (now (session .entry)) (now (room .entry)) .outcome ⌝ }
     ensures short { λ _. ⌜ ShortText (now (session .entry)) ⌝ }
     ensures granted { λ _. ⌜ GrantedAlone ⌝ }
 {

@@ -71,7 +71,9 @@ walk-requires c κs =
     (begins (c .before .before .before .before .before .before .before .before .before .before .before .before .before .before .before .before .args .session .now) (c .before .before .before .before .before .before .before .before .before .before .before .before .before .before .before .before .args .nodes) (c .before .before .before .before .before .before .before .before .before .before .before .before .before .before .before .before .args .sheets) o (owners-part o) (c .before .before .before .before .before .before .before .fresh .ensures), omega arith)
 
 returns : tie.Need-returns
-returns c = (too-short (c .before .before .before .before .before .before .before .walk .ensures) (c .if1 .taken), omega (arith, wrote-end (c .before .before .before .before .before .before .before .walk .ensures)))
+returns c =
+    let w = c .before .before .before .before .before .before .before .walk .ensures in
+    (too-short (w .wrote) (c .if1 .taken), (omega (arith, wrote-end (w .wrote)), w .again))
 
 slice-aggregate-copy : tie.Need-slice-aggregate-copy
 slice-aggregate-copy c = search needs
@@ -83,7 +85,9 @@ same-length : tie.Need-same-length
 same-length c = search needs
 
 returns-2 : tie.Need-returns-2
-returns-2 c = (all-told (c .before .before .before .before .before .before .before .before .before .before .before .before .walk .ensures) _ (omega arith) (c .before .before .before .before .before .if1 .left) (c .before .before .copy .ensures), omega (arith, wrote-end (c .before .before .before .before .before .before .before .before .before .before .before .before .walk .ensures)))
+returns-2 c =
+    let w = c .before .before .before .before .before .before .before .before .before .before .before .before .walk .ensures in
+    (all-told (w .wrote) _ (omega arith) (c .before .before .before .before .before .if1 .left) (c .before .before .copy .ensures), (omega (arith, wrote-end (w .wrote)), w .again))
 
 pub tell-all-spec : {M : Type 1} → statement M
 tell-all-spec =

@@ -113,7 +113,7 @@ loop-again c =
     let k = c .before .before .before .before .before .before .before .before .before .before .before .before .before .before .before .before .before .before .step .kept in
     let l = c .before .before .before .before .before .before .before .before .before .before .before .before .before .before .before .before .before .before .before .before .before .before .before .before .before .before .before .before .before .before .loop .inv in
     let g = goes-on o (l .0) _ (c .before .before .before .before .before .before .before .before .before .before .before .before .before .before .before .before .before .before .before .before .before .before .before .before .before .before .before .read-next .ensures) (c .before .before .before .before .before .before .before .before .before .before .before .before .before .before .before .before .before .before .before .before .before .before .before .before .before .next .given .1) (c .before .before .before .before .before .before .before .before .before .before .before .before .before .before .before .before .before .before .step .ensures .0 x) (c .before .before .before .before .before .before .before .before .before .before .before .before .before .before .before .before .before .before .step .ensures .1 x (l .0 .looping .fit)) (sym (c .before .before .before .before .before .before .before .refusal .ensures) ∙ c .before .before .before .before .before .before .if1 .left) (c .before .before .before .before .before .advanced .ensures) (c .before .before .before .told .ensures) (c .before .before .tell2 .ensures) in
-    (g, wrote-length (g .wrote), omega (arith, k .0, l .2), omega (arith, k .1 .0, l .3), omega (arith, k .1 .1 .0, l .4), omega (arith, k .1 .1 .1 .0, l .5), omega (arith, k .1 .1 .1 .1 .0, l .6))
+    (g, wrote-length (g .listed .wrote), omega (arith, k .0, l .2), omega (arith, k .1 .0, l .3), omega (arith, k .1 .1 .0, l .4), omega (arith, k .1 .1 .1 .0, l .5), omega (arith, k .1 .1 .1 .1 .0, l .6))
 
 enum-told : tie.Need-enum-told Inv-loop μ-loop
 enum-told c = search needs

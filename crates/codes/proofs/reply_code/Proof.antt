@@ -51,25 +51,25 @@ code-requires-6 : tie.Need-code-requires-6
 code-requires-6 c κs = omega (arith, near-refused _ _ _ (c .before .r3 .given .1) (c .before .before .before .pre))
 
 returns : tie.Need-returns
-returns c = search needs
+returns c = told _ _ (c .before .enum-told .given .1) tt (c .code .ensures)
 
 returns-2 : tie.Need-returns-2
-returns-2 c = search needs
+returns-2 c = told _ _ (c .before .enum-told2 .given .1) tt (c .code2 .ensures)
 
 returns-3 : tie.Need-returns-3
-returns-3 c = told _ _ (c .before .before .r .given .1) (c .code3 .ensures)
+returns-3 c = told _ _ (c .before .before .r .given .1) (omega arith) (c .code3 .ensures)
 
 returns-4 : tie.Need-returns-4
-returns-4 c = told _ _ (c .before .before .r2 .given .1) (c .take-code .ensures)
+returns-4 c = rw (c .before .before .r2 .given .1) (c .take-code .ensures)
 
 returns-5 : tie.Need-returns-5
-returns-5 c = search needs
+returns-5 c = told _ _ (c .before .enum-told3 .given .1) tt (c .code4 .ensures)
 
 returns-6 : tie.Need-returns-6
-returns-6 c = search needs
+returns-6 c = told _ _ (c .before .enum-told4 .given .1) tt (c .code5 .ensures)
 
 returns-7 : tie.Need-returns-7
-returns-7 c = told _ _ (c .before .before .r3 .given .1) (c .code6 .ensures)
+returns-7 c = told _ _ (c .before .before .r3 .given .1) (omega (arith, near-refused _ _ _ (c .before .before .r3 .given .1) (c .before .before .before .before .pre)), omega arith) (c .code6 .ensures)
 
 pub reply-code-spec : {M : Type 1} → statement M
 reply-code-spec =

@@ -1,4 +1,6 @@
 -- A number for each verdict.
+use native.Mathlib.Omega.{arith}
+use Rattle.codes.proofs.Decoding.{decoded}
 use borrow.Author.Needs.{needs}
 use Rattle.codes.proofs.take_code.Statement.{statement}
 use Rattle.codes.proofs.take_code.Tie as tie
@@ -28,10 +30,10 @@ code-requires-2 : tie.Need-code-requires-2
 code-requires-2 c κs = search needs
 
 returns : tie.Need-returns
-returns c = rw (c .before .enum-told .given .1) (c .code .ensures)
+returns c = rw (c .before .enum-told .given .1) (decoded _ (omega arith) (c .code .ensures))
 
 returns-2 : tie.Need-returns-2
-returns-2 c = rw (c .before .before .before .v .given .1) (rw (c .before .rule-number .ensures) at (c .code2 .ensures))
+returns-2 c = rw (c .before .before .before .v .given .1) (decoded _ (omega arith, omega arith) (rw (c .before .rule-number .ensures) at (c .code2 .ensures)))
 
 pub take-code-spec : {M : Type 1} → statement M
 take-code-spec =

@@ -26,10 +26,14 @@ add-result : tie.Need-add-result
 add-result c = search needs
 
 returns : tie.Need-returns
-returns c = (no-owners _ (sym (c .enum-told .given .1) ∙ c .before .before .read-header .ensures), (owners-there _, three-calls _ (λ i. omega (arith, c .before .before .before .shared-slice-known .given i))))
+returns c =
+    let t = no-owners _ (sym (c .enum-told .given .1) ∙ c .before .before .read-header .ensures) in
+    (t .0, (t .1, (owners-there _, three-calls _ (λ i. omega (arith, c .before .before .before .shared-slice-known .given i)))))
 
 returns-2 : tie.Need-returns-2
-returns-2 c = (owners-at _ _ _ (sym (c .before .header .given .1) ∙ c .before .before .before .read-header .ensures), (owners-there _, three-calls _ (λ i. omega (arith, c .before .before .before .before .shared-slice-known .given i))))
+returns-2 c =
+    let t = owners-at _ _ _ (sym (c .before .header .given .1) ∙ c .before .before .before .read-header .ensures) in
+    (t .0, (t .1, (owners-there _, three-calls _ (λ i. omega (arith, c .before .before .before .before .shared-slice-known .given i)))))
 
 pub cusphewa-owners-spec : {M : Type 1} → statement M
 cusphewa-owners-spec =

@@ -50,13 +50,19 @@ same-length : tie.Need-same-length
 same-length c = search needs
 
 returns : tie.Need-returns
-returns c = (read-told _ _ (c .before .before .read2 .given .1) (c .before .before .before .before .before .before .read .ensures .0) (c .code .ensures), of-bytes _ (λ i. omega (arith, c .before .before .before .before .before .before .before .before .before .shared-slice-known .given i)))
+returns c =
+    let w = c .before .before .before .before .before .before .read .ensures in
+    let s = read-small _ _ _ _ (c .before .before .read2 .given .1) (w .1) in
+    let t = read-told _ _ (c .before .before .read2 .given .1) (omega arith, omega arith, omega arith) (w .0) (c .code .ensures) in
+    (t .0, (t .1, of-bytes _ (λ i. omega (arith, c .before .before .before .before .before .before .before .before .before .shared-slice-known .given i))))
 
 same-length-2 : tie.Need-same-length-2
 same-length-2 c = search needs
 
 returns-2 : tie.Need-returns-2
-returns-2 c = (read-told _ _ (c .before .before .before .read3 .given .1) (c .before .before .before .before .before .before .before .read .ensures .0) (c .code2 .ensures ∙ rw (c .before .place .ensures)), of-bytes _ (λ i. omega (arith, c .before .before .before .before .before .before .before .before .before .before .shared-slice-known .given i)))
+returns-2 c =
+    let t = read-told _ _ (c .before .before .before .read3 .given .1) (omega arith) (c .before .before .before .before .before .before .before .read .ensures .0) (c .code2 .ensures ∙ rw (c .before .place .ensures)) in
+    (t .0, (t .1, of-bytes _ (λ i. omega (arith, c .before .before .before .before .before .before .before .before .before .before .shared-slice-known .given i))))
 
 pub cusphewa-read-spec : {M : Type 1} → statement M
 cusphewa-read-spec =

@@ -27,7 +27,9 @@ returns : tie.Need-returns
 returns c = coded-end _ _ (c .before .before .stop-of .ensures .0) (c .enum-told .given .1)
 
 returns-2 : tie.Need-returns-2
-returns-2 c = coded-part _ _ (c .before .before .before .stop-of .ensures .0) _ _ _ (c .before .stop .given .1)
+returns-2 c =
+    let s = c .before .before .before .stop-of .ensures in
+    coded-part _ _ (s .0) _ _ _ (c .before .stop .given .1) (near-part _ _ _ _ _ (c .before .stop .given .1) (s .2))
 
 pub cusphewa-shown-spec : {M : Type 1} → statement M
 cusphewa-shown-spec =

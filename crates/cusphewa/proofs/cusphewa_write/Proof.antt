@@ -34,7 +34,10 @@ same-length c = search needs
 returns : tie.Need-returns
 returns c =
     let a = c .before .before .before .before .before .before .before .before .before .before .before .args in
-    (wrote-told _ _ (c .before .before .written .given .1) (c .before .before .before .before .before .before .write .ensures .0) (c .code .ensures), (written-read _ _, (words-again _ (a .steps .now), (one-writing _ _, (one-list _ _, (writes-as-run, written-runs _ _))))))
+    let w = c .before .before .before .before .before .before .write .ensures in
+    let s = wrote-small _ _ (c .before .before .written .given .1) (w .1) in
+    let t = wrote-told _ _ (c .before .before .written .given .1) (omega arith) (w .0) (c .code .ensures) in
+    (t .0, (t .1, (written-read _ _, (words-again _ (a .steps .now), (one-writing _ _, (one-list _ _, (writes-as-run, written-runs _ _)))))))
 
 same-length-2 : tie.Need-same-length-2
 same-length-2 c = search needs
@@ -42,7 +45,8 @@ same-length-2 c = search needs
 returns-2 : tie.Need-returns-2
 returns-2 c =
     let a = c .before .before .before .before .before .before .before .before .before .before .before .before .args in
-    (wrote-told _ _ (c .before .before .before .written2 .given .1) (c .before .before .before .before .before .before .before .write .ensures .0) (c .code2 .ensures ∙ rw (c .before .place .ensures)), (written-read _ _, (words-again _ (a .steps .now), (one-writing _ _, (one-list _ _, (writes-as-run, written-runs _ _))))))
+    let t = wrote-told _ _ (c .before .before .before .written2 .given .1) (omega arith) (c .before .before .before .before .before .before .before .write .ensures .0) (c .code2 .ensures ∙ rw (c .before .place .ensures)) in
+    (t .0, (t .1, (written-read _ _, (words-again _ (a .steps .now), (one-writing _ _, (one-list _ _, (writes-as-run, written-runs _ _)))))))
 
 pub cusphewa-write-spec : {M : Type 1} → statement M
 cusphewa-write-spec =

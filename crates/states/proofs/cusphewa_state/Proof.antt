@@ -28,13 +28,17 @@ placed-code-requires c κs = c .before .before .show .ensures .1 .0
 returns : tie.Need-returns
 returns c =
     let e = sym (c .before .enum-told .given .1) ∙ c .before .before .before .read-header .ensures in
-    (no-state _ e (c .code .ensures), (no-text _ e, granted-alone))
+    let t = no-state _ e (c .code .ensures) in
+    (t .0, (t .1, (no-text _ e, granted-alone)))
 
 same-length : tie.Need-same-length
 same-length c = search needs
 
 returns-2 : tie.Need-returns-2
-returns-2 c = (placed-told (c .before .before .before .show .result) (c .before .before .before .show .ensures .0) (c .placed-code .ensures), (c .before .before .before .show .ensures .1 .1, granted-alone))
+returns-2 c =
+    let w = c .before .before .before .show .ensures in
+    let t = placed-told (c .before .before .before .show .result) (w .0) (c .placed-code .ensures) in
+    (t .0, (t .1, (w .1 .1, granted-alone)))
 
 pub cusphewa-state-spec : {M : Type 1} → statement M
 cusphewa-state-spec =
