@@ -22,7 +22,7 @@ use Rattle.session.specs.declared.Stop.the-variants.{End, Refused}
 use Rattle.session.specs.declared.Walked.{Walked}
 use Rattle.session.specs.declared.Ended.{Ended}
 use Rattle.session.specs.declared.Reply.{Reply}
-use Rattle.session.specs.Meaning.{stop-of, reply-to}
+use Rattle.session.specs.Meaning.{stop-of, reply-in}
 use Rattle.session.specs.Carried.{Within, Carried, filled, lines-of, Answered}
 
 -- ---- Where a run stops
@@ -78,5 +78,5 @@ module _ {b : List ℕ} (o : opens b ≡ true) {m : ℕ} {x : Slices} {r : Walke
   pub stop-near : Within max-session (r .stop)
   stop-near = within-less (length b) max-session (r .stop) (opens-has b o .0 .size) (v .within)
 
-  pub answered : {e : Ended} {z : ℕ} {l : Reply} → l ≡ reply-to (r .last) → e ≡ record { size = z; last = l; stop = r .stop } → Answered b e
+  pub answered : {e : Ended} {z : ℕ} {l : Reply} → l ≡ reply-in (r .last) → e ≡ record { size = z; last = l; stop = r .stop } → Answered b e
   answered el ee = rw (ee, el) record { stops = ap (λ f. f .stop) (v .same); replies = ap (λ f. f .last) (v .same); within = v .within }

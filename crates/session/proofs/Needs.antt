@@ -31,9 +31,10 @@ use Rattle.tally.specs.declared.Tally.{Tally}
 use Rattle.tally.specs.Figures.{figures, Room}
 use Rattle.session.specs.declared.Stop.{Stop}
 use Rattle.session.specs.declared.Stop.the-variants as stop
+use Rattle.session.specs.declared.Last.{Last}
 use Rattle.session.specs.declared.Reply.{Reply}
 use Rattle.session.specs.declared.Reply.the-variants.{NoCommand}
-use Rattle.session.specs.Meaning.{refusal-in, reply-to, reply-of, stop-of}
+use Rattle.session.specs.Meaning.{refusal-in, reply-to, reply-in, reply-of, stop-of}
 use Rattle.session.specs.Looping.{Begins, Looping}
 use Rattle.session.specs.Carried.{Carried, Within}
 use Rattle.session.proofs.Loop as loop
@@ -118,7 +119,7 @@ module _ {b : List ℕ} (o : opens b ≡ true) {m : ℕ} {x : Slices} {tally : T
         same-tally (Refused u) n = refl
 
         -- a refused command leaves the state as it was, and what is known of it
-        pub stops : (refusal-in a ≡ 0 → ⊥) → {l : Answer} → reply-to l ≡ last → Carried b m x′ (record { tally = tally; last = l; stop = stop.Refused p (refusal-in a) (1 + w) })
+        pub stops : (refusal-in a ≡ 0 → ⊥) → {l : Last} → reply-in l ≡ last → Carried b m x′ (record { tally = tally; last = l; stop = stop.Refused p (refusal-in a) (1 + w) })
         stops n e′ =
             let y = stayed here (shown m x′ (advanced (figures tally) a)) (command-of c) a (s .equation (figures tally)) n in
             let k : shown m x′ (figures tally) ≡ here = rw (same-tally a n) at (y .state) in
@@ -133,7 +134,7 @@ module _ {b : List ℕ} (o : opens b ≡ true) {m : ℕ} {x : Slices} {tally : T
 
     -- ---- The end
 
-    module _ {l : Answer} (e′ : reply-to l ≡ last) where
+    module _ {l : Last} (e′ : reply-in l ≡ last) where
       carried : (st : Stop) → session-final b ≡ record { state = here; stop = stop-of st; last = reply-of last } → Within (length b) st → Carried b m x (record { tally = tally; last = l; stop = st })
       carried st same w = record { same = same ∙ (λ i. record { state = here; stop = stop-of st; last = reply-of (sym e′ i) }); ready = is-ready; fit = v .fit; within = w }
 
@@ -147,7 +148,7 @@ module _ {b : List ℕ} (o : opens b ≡ true) {m : ℕ} {x : Slices} {tally : T
       at-end q = carried stop.End (loop.ends b here (reply-of last) p (v .going) (found (ap front-of q))) tt
 
   -- nothing is left
-  pub done : {l : Answer} → reply-to l ≡ last → length b ≤ p → Carried b m x (record { tally = tally; last = l; stop = stop.End })
+  pub done : {l : Last} → reply-in l ≡ last → length b ≤ p → Carried b m x (record { tally = tally; last = l; stop = stop.End })
   done e′ h = at-end End (sym (nothing (take (length b - p) (drop p b)) (ap length (rest b p) ∙ length-drop p b ∙ omega arith))) e′ refl
     where
       nothing : (s : List ℕ) → length s ≡ 0 → front-in s ≡ none

@@ -18,7 +18,7 @@ use Rattle.session.specs.declared.Walked.{Walked}
 use Rattle.session.specs.declared.Ended.{Ended}
 use Rattle.session.specs.declared.Stop.{Stop}
 use Rattle.session.specs.declared.Stop.the-variants.{End, Refused}
-use Rattle.session.specs.Meaning.{stop-of, reply-of, reply-to}
+use Rattle.session.specs.Meaning.{stop-of, reply-of, reply-in}
 
 -- a refusal stands within n bytes
 abbrev pub Within : ℕ → Stop → Type 0
@@ -27,7 +27,7 @@ Within n (Refused p m shown) = p + shown ≤ n
 
 -- the slices and what the walk comes to, as the rules have it
 abbrev pub final-of : ℕ → Slices → Walked → Final
-final-of m x r = record { state = shown m x (figures (r .tally)); stop = stop-of (r .stop); last = reply-of (reply-to (r .last)) }
+final-of m x r = record { state = shown m x (figures (r .tally)); stop = stop-of (r .stop); last = reply-of (reply-in (r .last)) }
 
 pub record Carried (b : List ℕ) (m : ℕ) (x : Slices) (r : Walked) : Type 0 where
   pub same : session-final b ≡ final-of m x r

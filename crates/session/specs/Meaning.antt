@@ -10,6 +10,7 @@ use Rattle.session.specs.declared.Stop.{Stop}
 use Rattle.session.specs.declared.Stop.the-variants as stop
 use Rattle.session.specs.declared.Reply.{Reply}
 use Rattle.session.specs.declared.Reply.the-variants as reply
+use Rattle.session.specs.declared.Last.{Last}
 
 abbrev pub stop-of : Stop → bytes.Stop
 stop-of stop.End = bytes.ended
@@ -46,3 +47,7 @@ reply-to answer.CommitsLater = reply.Commits
 reply-to answer.SecondRun = reply.SecondRun
 reply-to answer.Recommits = reply.Accepted
 reply-to (answer.Refused n) = reply.NoCommand
+
+-- the last accepted command's, or that there was none
+abbrev pub reply-in : Last → Reply
+reply-in l = reply-to (l .answer)

@@ -69,16 +69,28 @@ pub fn told(a: Answer) -> Reply
     }
 }
 
+// The last accepted command's answer, or that there was no command yet.
+pub struct Last {
+    answer: Answer,
+}
+
+impl Last {
+    // No command yet. A refusal stands for it, whichever it is: no accepted command answers so, and a mark of its own would be carried along by every
+    // command.
+    const NONE: Last = Last {
+        answer: Answer::Refused(0),
+    };
+}
+
 // What the walk over a session's commands comes to, beside the slices.
 pub struct Walked {
     pub tally: Tally,
-    // The last accepted command's answer, a refusal where there is none.
-    pub last: Answer,
+    pub last: Last,
     pub stop: Stop,
 }
 
 // Where the walk stops.
-fn halted(tally: Tally, last: Answer, stop: Stop) -> Walked
+fn halted(tally: Tally, last: Last, stop: Stop) -> Walked
     ensures { λ r. ⌜ r ≡ record { tally = tally; last = last; stop = stop } ⌝ }
 {
     Walked {
@@ -150,7 +162,7 @@ pub fn walk(
     ensures { λ r. ⌜ Carried (now (session .entry)) m (slices (now (b .exit)) (now (listed .exit)) (now (value .exit)) (now (seen .exit)) (now (w .exit))) r ⌝ }
 {
     let mut tally = Tally::new();
-    let mut last = Answer::Refused(0);
+    let mut last = Last::NONE;
     let mut at: usize = 2 + m;
     while at < session.len() {
         let next = wire::read_next(&session[at..]);
@@ -163,7 +175,7 @@ pub fn walk(
                 }
                 let t = tally.advanced(a);
                 tally = t;
-                last = a;
+                last = Last { answer: a };
                 at = at + 1 + z;
             }
             Next::Unknown => return halted(tally, last, Stop::Refused(at, 2, 1)),
@@ -200,7 +212,8 @@ pub fn run(session: &[u8], report: &mut [u8], nodes: u8, sheets: u16) -> Ended
         m,
     );
     let size = report_lines(report, &b, &w, m, r);
-    let a = r.last;
+    let last = r.last;
+    let a = last.answer;
     let stop = r.stop;
     closed(size, told(a), stop)
 }

@@ -87,10 +87,10 @@ same-length : tie.Need-same-length
 same-length c = search needs
 
 returns : tie.Need-returns
-returns c = let s = c .before .before .before .before .before .before .before .before .before .before .before .before .before .before .before .before .before .before .before .before .before .before .before .before .before .before .before .before .before in
+returns c = let s = c .before .before .before .before .before .before .before .before .before .before .before .before .before .before .before .before .before .before .before .before .before .before .before .before .before .before .before .before .before .before in
     let o = opening (s .args .session .now) (s .args .nodes) (s .args .sheets) (s .pre) in
-    let v = c .before .before .before .before .before .before .before .before .before .before .before .before .before .walk .ensures in
-    rw (c .closed .ensures) (answered (o .opened-well) v (c .before .told .ensures) refl, (reported (o .opened-well) v (s .args .report .now) (c .before .before .before .before .report-lines .ensures .0), c .before .before .before .before .report-lines .ensures .1))
+    let v = c .before .before .before .before .before .before .before .before .before .before .before .before .before .before .walk .ensures in
+    rw (c .closed .ensures) (answered (o .opened-well) v (c .before .told .ensures) refl, (reported (o .opened-well) v (s .args .report .now) (c .before .before .before .before .before .report-lines .ensures .0), c .before .before .before .before .before .report-lines .ensures .1))
 
 pub run-spec : {M : Type 1} → statement M
 run-spec =

@@ -6,7 +6,7 @@ use lib.ListN.{length}
 use Rattle.tally.specs.Figures.{figures}
 use Rattle.state.specs.View.{no-tally}
 use Rattle.state.specs.Slices.{slices}
-use Rattle.session.specs.Meaning.{reply-to}
+use Rattle.session.specs.Meaning.{reply-in}
 use Rattle.session.specs.Looping.{Looping}
 use Rattle.session.proofs.Needs.{starts, start-within, is-ready, is-rising, room, fits, goes-on, stops, at-unknown, at-cut, at-end, done}
 use borrow.Author.Needs.{needs}
@@ -14,7 +14,7 @@ use Rattle.session.proofs.walk.Statement.{statement}
 use Rattle.session.proofs.walk.Tie as tie
 
 abbrev Inv-loop : tie.InvT-loop
-Inv-loop session b₀ listed₀ value₀ seen₀ w₀ m tally₀ last₀ at₀ b listed value seen w tally last at = Looping session m (slices b listed value seen w) tally (reply-to last) at × (length b ≡ length b₀) × (length listed ≡ length listed₀) × (length value ≡ length value₀) × (length seen ≡ length seen₀) × (length w ≡ length w₀)
+Inv-loop session b₀ listed₀ value₀ seen₀ w₀ m tally₀ last₀ at₀ b listed value seen w tally last at = Looping session m (slices b listed value seen w) tally (reply-in last) at × (length b ≡ length b₀) × (length listed ≡ length listed₀) × (length value ≡ length value₀) × (length seen ≡ length seen₀) × (length w ≡ length w₀)
 
 abbrev μ-loop : tie.MeasureT-loop
 μ-loop session b₀ listed₀ value₀ seen₀ w₀ m tally₀ last₀ at₀ b listed value seen w tally last at = length session - at
@@ -50,26 +50,26 @@ step-requires c κs = let o = c .before .before .before .before .before .before 
 refusal-requires : tie.Need-refusal-requires Inv-loop μ-loop
 refusal-requires c κs = search needs
 
-add-t33 : tie.Need-add-t33 Inv-loop μ-loop
-add-t33 c = let s = c .before .before .before .before .before .before .before .before .before .before .before .before .before .before .before .before .before .before .before .before .before .before .before .before .before .before .before .before .before .before .before .before in let f = fits (c .before .before .before .before .before .before .before .before .before .before .before .before .before .before .before .before .before .before .before .before .before .before .before .before .before .before .before .before .before .before .before .before .pre .opened-well) (c .before .before .before .before .before .before .before .before .before .before .before .before .before .before .before .before .before .before .before .before .before .before .before .before .loop .inv .0) _ (c .before .before .before .before .before .before .before .before .before .before .before .before .before .before .before .before .before .before .before .before .before .read-next .ensures) (c .before .before .before .before .before .before .before .before .before .before .before .before .before .before .before .before .before .before .before .next .given .1) in omega arith
+add-t34 : tie.Need-add-t34 Inv-loop μ-loop
+add-t34 c = let s = c .before .before .before .before .before .before .before .before .before .before .before .before .before .before .before .before .before .before .before .before .before .before .before .before .before .before .before .before .before .before .before .before in let f = fits (c .before .before .before .before .before .before .before .before .before .before .before .before .before .before .before .before .before .before .before .before .before .before .before .before .before .before .before .before .before .before .before .before .pre .opened-well) (c .before .before .before .before .before .before .before .before .before .before .before .before .before .before .before .before .before .before .before .before .before .before .before .before .loop .inv .0) _ (c .before .before .before .before .before .before .before .before .before .before .before .before .before .before .before .before .before .before .before .before .before .read-next .ensures) (c .before .before .before .before .before .before .before .before .before .before .before .before .before .before .before .before .before .before .before .next .given .1) in omega arith
 
 halted-requires : tie.Need-halted-requires Inv-loop μ-loop
 halted-requires c κs = search needs
 
 same-length : tie.Need-same-length Inv-loop μ-loop
-same-length c = search needs
+same-length c = search (needs, c .before .before .before .before .before .before .before .before .before .before .before .before .b .given, c .before .before .before .before .before .before .before .before .before .before .before .before .before .before .before .before .before .before .before .before .before .before .before .before .before .loop .inv)
 
 same-length-2 : tie.Need-same-length-2 Inv-loop μ-loop
-same-length-2 c = search needs
+same-length-2 c = search (needs, c .before .before .before .before .before .before .before .before .before .before .listed .given, c .before .before .before .before .before .before .before .before .before .before .before .before .before .before .before .before .before .before .before .before .before .before .before .before .before .loop .inv)
 
 same-length-3 : tie.Need-same-length-3 Inv-loop μ-loop
-same-length-3 c = search needs
+same-length-3 c = search (needs, c .before .before .before .before .before .before .before .before .value .given, c .before .before .before .before .before .before .before .before .before .before .before .before .before .before .before .before .before .before .before .before .before .before .before .before .before .loop .inv)
 
 same-length-4 : tie.Need-same-length-4 Inv-loop μ-loop
-same-length-4 c = search needs
+same-length-4 c = search (needs, c .before .before .before .before .before .before .seen .given, c .before .before .before .before .before .before .before .before .before .before .before .before .before .before .before .before .before .before .before .before .before .before .before .before .before .loop .inv)
 
 same-length-5 : tie.Need-same-length-5 Inv-loop μ-loop
-same-length-5 c = search needs
+same-length-5 c = search (needs, c .before .before .before .before .w .given, c .before .before .before .before .before .before .before .before .before .before .before .before .before .before .before .before .before .before .before .before .before .before .before .before .before .loop .inv)
 
 returns : tie.Need-returns Inv-loop μ-loop
 returns c = let o = c .before .before .before .before .before .before .before .before .before .before .before .before .before .before .before .before .before .before .before .before .before .before .before .before .before .before .before .before .before .before .before .before .before .pre .opened-well in let l = c .before .before .before .before .before .before .before .before .before .before .before .before .before .before .before .before .before .before .before .before .before .before .before .before .before .loop in let x = slices (l .b) (l .listed) (l .value) (l .seen) (l .w) in
@@ -119,8 +119,8 @@ returns-2 c = rw (c .halted2 .ensures) (at-unknown (c .before .before .before .b
 enum-told-2 : tie.Need-enum-told-2 Inv-loop μ-loop
 enum-told-2 c = search needs
 
-sub-t38 : tie.Need-sub-t38 Inv-loop μ-loop
-sub-t38 c = search needs
+sub-t39 : tie.Need-sub-t39 Inv-loop μ-loop
+sub-t39 c = search needs
 
 halted-requires-3 : tie.Need-halted-requires-3 Inv-loop μ-loop
 halted-requires-3 c κs = search needs
@@ -204,7 +204,7 @@ walk-spec =
     enum-known-next
     step-requires
     refusal-requires
-    add-t33
+    add-t34
     halted-requires
     same-length
     same-length-2
@@ -226,7 +226,7 @@ walk-spec =
     same-length-10
     returns-2
     enum-told-2
-    sub-t38
+    sub-t39
     halted-requires-3
     same-length-11
     same-length-12
