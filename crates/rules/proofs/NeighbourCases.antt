@@ -8,7 +8,9 @@ use Rattle.rules.specs.Steps.{x-on, run}
 use Rattle.rules.specs.Calls.{stop}
 use Rattle.rules.specs.Report.{report}
 use Rattle.rules.specs.Cases.{hex, in-one-order, in-another}
-use Rattle.rules.specs.Neighbours.{Swaps, swap, behind, then, SwappedSteps}
+use Rattle.rules.specs.Demand3.{session-commands}
+use Rattle.rules.specs.Writing.{form, in-bytes, operand-bytes, steps-bytes}
+use Rattle.rules.specs.Neighbours.{Swaps, swap, behind, then, SwappedSteps, swapped-session}
 use Rattle.rules.proofs.Neighbours.{same-report}
 
 past : (front : List Command) {cs ds : List Command} → Swaps cs ds → Swaps (front ++ cs) (front ++ ds)
@@ -43,3 +45,8 @@ accepted-whole = refl
 
 pub one-report : report (hex in-another) ≡ report (hex in-one-order)
 one-report = same-report (hex in-one-order) (hex in-another) accepted-whole swapped .1
+
+-- and the second one is what is written of its list under the first one's header
+pub other-order : swapped-session (hex in-one-order) (session-commands (hex in-another)) ≡ hex in-another
+unfolding read-from form in-bytes operand-bytes steps-bytes
+other-order = refl

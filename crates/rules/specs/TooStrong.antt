@@ -35,7 +35,7 @@ abbrev pub three-wide : String
 three-wide =
     "04 04 00 01 02 03  01 00  02 00 00  01 01  02 01 00  01 02  02 02 00  01 03  02 03 00  03 00 00 00 00 00 01  04 00  05 00  04 01  05 00  04 02  05 00  04 03  05 00  06 00  07 00 00  " ++ "06 01  02 01 00  02 01 01  02 01 02  02 01 03  03 01 01 00 00 00 01  06 02  02 02 00  02 02 01  02 02 02  02 02 03  03 02 01 00 00 00 02  " ++ "06 03  02 03 00  02 03 01  02 03 02  02 03 03  03 03 01 00 00 00 03"
 
--- node n carries out save t, at the four nodes
+-- save t is carried out at the four nodes
 abbrev carried-out : ℕ → List Command → List Command
 carried-out t cs = Apply 0 t ∷ Apply 1 t ∷ Apply 2 t ∷ Apply 3 t ∷ cs
 
