@@ -14,7 +14,8 @@ use Rattle.rules.specs.Sizes.{max-nodes, max-sheets, max-session}
 use Rattle.rules.specs.Bytes.{Header, byte, header, header-size, in-range, opens, Operand, save, sheet, node, content, width, limit, Command, Begin, Read, Write, Submit, Take, Decide, Apply, GiveUp, Form, commands, form-of, widths, values, whole, front, Step, ended, read-from, reading}
 use Rattle.rules.specs.Steps.{Checked, pass, refuse}
 use Rattle.rules.specs.Demand3.{session-commands}
-use Rattle.rules.specs.Writing.{Heading, Instruction, header-of, slots, Refusal, at, unless, first-of, heading-fits, zeros, below-limits, operands-fit, form, check-by, check-step, refusal-at, steps-refusal, in-bytes, operand-bytes, step-bytes, steps-bytes, session-bytes, bytes, refused, written-unless, write-refusal, write, heading, Listing, steps, stops, also, numbers, instruction, list-by, list-from, session, refuses, listed-by, read, Bytes, ReadWritten, WrittenRead, OneWriting, OneList, commands-of, ReadRun, as-step, AsSteps, ReadSteps, instructions, step-words, words, Listed, listed, refuse-with, read-into, read-call, write-call, WordsAgain, owners-part, part-of, OwnersThere, ThreeCalls}
+use Rattle.rules.specs.Calls.{part-of}
+use Rattle.rules.specs.Writing.{Heading, Instruction, header-of, slots, Refusal, at, unless, first-of, heading-fits, zeros, below-limits, operands-fit, form, check-by, check-step, refusal-at, steps-refusal, in-bytes, operand-bytes, step-bytes, steps-bytes, session-bytes, bytes, refused, written-unless, write-refusal, write, heading, Listing, steps, stops, also, numbers, instruction, list-by, list-from, session, refuses, listed-by, read, Bytes, ReadWritten, WrittenRead, OneWriting, OneList, commands-of, ReadRun, as-step, AsSteps, ReadSteps, instructions, step-words, words, Listed, listed, refuse-with, read-into, read-call, write-call, WordsAgain, owners-part, OwnersThere, ThreeCalls}
 use Rattle.rules.proofs.Table.{bool, and-l, and-r}
 use Rattle.rules.proofs.Numbers.{bytes-drop, bytes-take, in-bytes-length, number-back, bytes-back}
 

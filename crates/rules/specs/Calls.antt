@@ -63,6 +63,10 @@ part-by (stopped p n shown) b = record { from = p; size = shown }
 unfoldable pub part : List ℕ → Part
 part b = part-by (stop b) b
 
+-- a part of a session, as bytes
+abbrev pub part-of : Part → List ℕ → List ℕ
+part-of p b = take (p .size) (drop (p .from) b)
+
 -- "the part of the session holding it, from its first byte, is handed back"
 abbrev pub shown : List ℕ → List ℕ
-shown b = take (part b .size) (drop (part b .from) b)
+shown b = part-of (part b) b

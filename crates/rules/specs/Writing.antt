@@ -10,7 +10,7 @@ use Rattle.rules.specs.Sizes.{max-session, max-steps}
 use Rattle.rules.specs.Bytes.{Header, byte, header, header-size, in-range, opens, Operand, width, limit, Command, Begin, Read, Write, Submit, Take, Decide, Apply, GiveUp, Form, commands, form-of, widths, values}
 use Rattle.rules.specs.Steps.{Checked, pass, refuse}
 use Rattle.rules.specs.Demand3.{session-commands}
-use Rattle.rules.specs.Calls.{Part}
+use Rattle.rules.specs.Calls.{Part, part-of}
 
 -- ---- What is handed over
 
@@ -298,10 +298,6 @@ abbrev pub WordsAgain : Heading → List ℕ → Type 0
 WordsAgain g ws =
     (b room : List ℕ) → write g (instructions ws) ≡ bytes b → length ws ≤ length room
     → read-call b room ≡ record { outcome = listed (g .nodes) (g .sheets) (length (instructions ws)); room = ws ++ drop (length ws) room }
-
--- a part of a session
-abbrev pub part-of : Part → List ℕ → List ℕ
-part-of p b = take (p .size) (drop (p .from) b)
 
 -- The part that is named has the header's owners.
 abbrev pub OwnersThere : List ℕ → Type 0
