@@ -1,5 +1,5 @@
 -- The rules' sheets and tally, from the slice and numbers that the writers are given, and parts of lines.
-use Prim.Native.Nat.{ℕ, _+_}
+use Prim.Native.Nat.{ℕ, _+_, _/_, _%_}
 use mathlib.Core.List.{List, [], _∷_, _++_}
 use lib.ListN.{getD}
 use Rattle.rules.specs.State.{Sheet, Tally}
@@ -13,6 +13,9 @@ abbrev pub tally-of : (accepted first second : ℕ) → Tally
 tally-of a f s = record { accepted = a; from-first = f; from-second = s }
 
 -- ---- Parts of lines
+
+abbrev pub last-two : ℕ → List ℕ
+last-two n = (48 + n / 10 % 10) ∷ (48 + n % 10) ∷ []
 
 -- a letter and two fields
 abbrev pub opening : (letter a b : ℕ) → List ℕ

@@ -5,7 +5,7 @@ ghost use Prim.Native.Nat.{_+_, _*_, _<_, _≤_};
 ghost use lib.ListN.{length};
 ghost use Rattle.rules.specs.Report as rules;
 ghost use Rattle.text.specs.Wrote.{Wrote};
-ghost use Rattle.text.specs.Lines.{sheets-of, tally-of, opening, three};
+ghost use Rattle.text.specs.Lines.{last-two, sheets-of, tally-of, opening, three};
 
 // One byte.
 fn put(buf: &mut [u8], at: usize, b: u8) -> usize
@@ -16,25 +16,47 @@ fn put(buf: &mut [u8], at: usize, b: u8) -> usize
     at + 1
 }
 
+// The last two figures of a number.
+fn last_two(buf: &mut [u8], at: usize, n: u32) -> usize
+    requires { ⌜ at + 2 ≤ length (now buf) ⌝ }
+    ensures { λ r. ⌜ Wrote (now (buf .entry)) at (last-two n) 2 r (now (buf .exit)) ⌝ }
+{
+    let e = put(buf, at, 48 + ((n / 10 % 10) as u8));
+    put(buf, e, 48 + ((n % 10) as u8))
+}
+
+// A number below 100: nearly all are.
+fn short(buf: &mut [u8], at: usize, n: u32) -> usize
+    requires { ⌜ (n < 100) × (at + length (rules.decimal n) ≤ length (now buf)) ⌝ }
+    ensures { λ r. ⌜ Wrote (now (buf .entry)) at (rules.decimal n) 10 r (now (buf .exit)) ⌝ }
+{
+    if n < 10 {
+        return put(buf, at, 48 + ((n % 10) as u8));
+    }
+    last_two(buf, at, n)
+}
+
 // A number in decimal figures, without leading zeros.
 fn decimal(buf: &mut [u8], at: usize, n: u32) -> usize
     requires { ⌜ at + length (rules.decimal n) ≤ length (now buf) ⌝ }
     ensures { λ r. ⌜ Wrote (now (buf .entry)) at (rules.decimal n) 10 r (now (buf .exit)) ⌝ }
 {
-    let figure = 48 + ((n % 10) as u8);
-    if n < 10 {
-        return put(buf, at, figure);
+    if n < 100 {
+        return short(buf, at, n);
     }
-    let e = decimal(buf, at, n / 10);
-    put(buf, e, figure)
+    let e = decimal(buf, at, n / 100);
+    last_two(buf, e, n)
 }
 
-// A blank and a number.
+// A blank and a number. The test stands here too, since a function that calls itself is not inlined.
 pub fn field(buf: &mut [u8], at: usize, n: u32) -> usize
     requires { ⌜ at + 11 ≤ length (now buf) ⌝ }
     ensures { λ r. ⌜ Wrote (now (buf .entry)) at (rules.field n) 11 r (now (buf .exit)) ⌝ }
 {
     let e = put(buf, at, b' ');
+    if n < 100 {
+        return short(buf, e, n);
+    }
     decimal(buf, e, n)
 }
 

@@ -1,30 +1,25 @@
--- By the number: below 10 it is one figure, else the figures of a tenth of it and then the last.
-use mathlib.Core.Path.{_≡_, sym, ap, _∙_}
-use mathlib.Core.List.{List}
-use Prim.Native.Nat.{ℕ, _+_, _/_, _^_, _<_, _≤_}
+-- By the number: below 100 it is put straight, else the figures of a hundredth of it and then the last two.
+use mathlib.Core.Path.{_≡_, ap, _∙_}
+use Prim.Native.Nat.{ℕ, _+_, _/_, _<_, _≤_}
 use native.Mathlib.Omega.{arith}
 use borrow.Author.Needs.{needs}
 use lib.ListN.{length, length-append}
 use Rattle.rules.specs.Report as rules
-use Rattle.text.specs.Wrote.{Wrote}
-use Rattle.text.proofs.Writing.{wrote-then, wrote-as, wrote-length}
-use Rattle.text.proofs.Figures.{decimal-low, decimal-high, decimal-short}
+use Rattle.text.proofs.Writing.{wrote-then, wrote-length}
+use Rattle.text.proofs.Figures.{decimal-long, decimal-written}
 use borrow.Fn.Kinds.{In}
 use borrow.Fn.PlainCycle.{Measures, is, falls, and}
 use Rattle.text.proofs.decimal.Reads as decimal
 use Rattle.text.proofs.decimal.Kinds as decimal-kinds
 use Rattle.text.proofs.+decimal.Lts-decimal as decimal-lts
-use Rattle.text.proofs.put.Reads as put-reads
+use Rattle.text.proofs.last_two.Reads as last-two-reads
+use Rattle.text.proofs.short.Reads as short-reads
 use Rattle.text.proofs.+decimal.{statement}
 use Rattle.text.proofs.+decimal.Tie.{close}
 
--- the figures before the last
-shorter : (n : ℕ) → 10 ≤ n → length (rules.decimal n) ≡ length (rules.decimal (n / 10)) + 1
-shorter n h = ap length (decimal-high n h) ∙ simp length-append
-
--- what was written is the number
-written : {l m x : List ℕ} {a b u : ℕ} (n : ℕ) → n < 2 ^ 32 → x ≡ rules.decimal n → Wrote l a x u b m → Wrote l a (rules.decimal n) 10 b m
-written n h e w = wrote-as e (decimal-short 9 n (omega arith)) w
+-- the figures before the last two
+shorter : (n : ℕ) → 100 ≤ n → length (rules.decimal n) ≡ length (rules.decimal (n / 100)) + 2
+shorter n h = ap length (decimal-long n h) ∙ simp length-append
 
 abbrev μ-decimal : Measures 1 decimal-kinds.ps ℕ
 μ-decimal κs a = a .1 .1 .0
@@ -35,103 +30,99 @@ decimal-at t = and 1 decimal-kinds.ps (is 1 decimal-kinds.ps μ-decimal t) decim
 abbrev decimal-below : ℕ → In 1 decimal-kinds.ps
 decimal-below t = and 1 decimal-kinds.ps (falls 1 decimal-kinds.ps _<_ μ-decimal t) decimal.Pre
 
-decimal-cast-figure : (t : ℕ) → decimal-lts.Need-cast-figure (
-  put-reads.Asked,
-  put-reads.Learnt,
+decimal-short-requires : (t : ℕ) → decimal-lts.Need-short-requires (
+  short-reads.Asked,
+  short-reads.Learnt,
   decimal-below t,
   decimal.Post,
+  last-two-reads.Asked,
+  last-two-reads.Learnt,
 ) (decimal-at t) decimal.Post
-decimal-cast-figure t c = search needs
-
-decimal-add-figure : (t : ℕ) → decimal-lts.Need-add-figure (
-  put-reads.Asked,
-  put-reads.Learnt,
-  decimal-below t,
-  decimal.Post,
-) (decimal-at t) decimal.Post
-decimal-add-figure t c = search needs
-
-decimal-put-requires : (t : ℕ) → decimal-lts.Need-put-requires (
-  put-reads.Asked,
-  put-reads.Learnt,
-  decimal-below t,
-  decimal.Post,
-) (decimal-at t) decimal.Post
-decimal-put-requires t c κs =
-    let e : length (rules.decimal (c .before .before .before .args .n)) ≡ 1 = ap length (decimal-low (c .before .before .before .args .n) (omega arith)) in
-    omega arith
+decimal-short-requires t c κs = search needs
 
 decimal-same-length : (t : ℕ) → decimal-lts.Need-same-length (
-  put-reads.Asked,
-  put-reads.Learnt,
+  short-reads.Asked,
+  short-reads.Learnt,
   decimal-below t,
   decimal.Post,
+  last-two-reads.Asked,
+  last-two-reads.Learnt,
 ) (decimal-at t) decimal.Post
-decimal-same-length t c = c .before .before .put .kept .0
+decimal-same-length t c = c .before .before .short .kept .0
 
 decimal-returns : (t : ℕ) → decimal-lts.Need-returns (
-  put-reads.Asked,
-  put-reads.Learnt,
+  short-reads.Asked,
+  short-reads.Learnt,
   decimal-below t,
   decimal.Post,
+  last-two-reads.Asked,
+  last-two-reads.Learnt,
 ) (decimal-at t) decimal.Post
-decimal-returns t c = written _ (c .before .before .before .before .before .before .fits .n .fits) (sym (decimal-low (c .before .before .before .before .before .before .args .n) (omega arith))) (c .before .before .put .ensures)
+decimal-returns t c = c .before .before .short .ensures
 
 decimal-decimal-requires : (t : ℕ) → decimal-lts.Need-decimal-requires (
-  put-reads.Asked,
-  put-reads.Learnt,
+  short-reads.Asked,
+  short-reads.Learnt,
   decimal-below t,
   decimal.Post,
+  last-two-reads.Asked,
+  last-two-reads.Learnt,
 ) (decimal-at t) decimal.Post
 decimal-decimal-requires t c κs =
     let e = shorter (c .before .before .before .args .n) (omega arith) in
     (omega arith, omega arith)
 
-decimal-put-requires-2 : (t : ℕ) → decimal-lts.Need-put-requires-2 (
-  put-reads.Asked,
-  put-reads.Learnt,
+decimal-last-two-requires : (t : ℕ) → decimal-lts.Need-last-two-requires (
+  short-reads.Asked,
+  short-reads.Learnt,
   decimal-below t,
   decimal.Post,
+  last-two-reads.Asked,
+  last-two-reads.Learnt,
 ) (decimal-at t) decimal.Post
-decimal-put-requires-2 t c κs =
+decimal-last-two-requires t c κs =
     let e = shorter (c .before .before .before .before .before .before .before .args .n) (omega arith) in
     let k = wrote-length (c .before .before .before .decimal .ensures) in
     let m = c .before .before .before .decimal .ensures .ends in
     omega arith
 
 decimal-same-length-2 : (t : ℕ) → decimal-lts.Need-same-length-2 (
-  put-reads.Asked,
-  put-reads.Learnt,
+  short-reads.Asked,
+  short-reads.Learnt,
   decimal-below t,
   decimal.Post,
+  last-two-reads.Asked,
+  last-two-reads.Learnt,
 ) (decimal-at t) decimal.Post
-decimal-same-length-2 t c = c .before .before .put2 .kept .0 ∙ c .before .before .before .before .before .before .decimal .kept .0
+decimal-same-length-2 t c = c .before .before .last-two .kept .0 ∙ c .before .before .before .before .before .before .decimal .kept .0
 
 decimal-returns-2 : (t : ℕ) → decimal-lts.Need-returns-2 (
-  put-reads.Asked,
-  put-reads.Learnt,
+  short-reads.Asked,
+  short-reads.Learnt,
   decimal-below t,
   decimal.Post,
+  last-two-reads.Asked,
+  last-two-reads.Learnt,
 ) (decimal-at t) decimal.Post
 decimal-returns-2 t c =
-    written _ (c .before .before .before .before .before .before .before .before .before .before .fits .n .fits) (sym (decimal-high (c .before .before .before .before .before .before .before .before .before .before .args .n) (omega arith)))
-    (wrote-then (c .before .before .before .before .before .before .decimal .ensures) (c .before .before .put2 .ensures))
+    let a = c .before .before .before .before .before .before .before .before .before .before in
+    decimal-written _ (a .fits .n .fits) (decimal-long (a .args .n) (omega arith)) (wrote-then (c .before .before .before .before .before .before .decimal .ensures) (c .before .before .last-two .ensures))
 
 pub +decimal-spec : {M : Type 1} → statement M
 +decimal-spec = close μ-decimal λ t. decimal-lts.spec (
-  put-reads.Asked,
-  put-reads.Learnt,
+  short-reads.Asked,
+  short-reads.Learnt,
   decimal-below t,
   decimal.Post,
+  last-two-reads.Asked,
+  last-two-reads.Learnt,
 )
     (decimal-at t)
     decimal.Post
-    (decimal-cast-figure t)
-    (decimal-add-figure t)
-    (decimal-put-requires t)
+    (decimal-short-requires t)
     (decimal-same-length t)
     (decimal-returns t)
     (decimal-decimal-requires t)
-    (decimal-put-requires-2 t)
+    (decimal-last-two-requires t)
     (decimal-same-length-2 t)
     (decimal-returns-2 t)
