@@ -25,13 +25,12 @@ pub fn append(room: &mut [u8], at: usize, text: &[u8], n: usize) -> usize
     requires { ⌜ (n ≤ length (now text)) × (at + n ≤ most) ⌝ }
     ensures { λ r. ⌜ Wrote (now (room .entry)) at (take n (now (text .entry))) n r (now (room .exit)) ⌝ }
 {
-    let mut e = at;
     let mut i: usize = 0;
-    while i < n {
-        e = put(room, e, text[i]);
+    while (i < n) & (at + i < room.len()) {
+        room[at + i] = text[i];
         i += 1;
     }
-    e
+    at + n
 }
 
 // A blank and a number.
@@ -39,6 +38,9 @@ pub fn field(room: &mut [u8], at: usize, n: u32) -> usize
     requires { ⌜ at + 11 ≤ most ⌝ }
     ensures { λ r. ⌜ Wrote (now (room .entry)) at (rules.field n) 11 r (now (room .exit)) ⌝ }
 {
+    if at + 11 <= room.len() {
+        return text::field(room, at, n);
+    }
     let mut figures = [0u8; 11];
     let e = text::field(&mut figures, 0, n);
     append(room, at, &figures, e)

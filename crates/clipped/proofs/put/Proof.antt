@@ -1,4 +1,5 @@
 -- A byte in the room, or none.
+use mathlib.Core.Path.{refl}
 use Rattle.clipped.proofs.Laws.{past-end}
 use borrow.Author.Needs.{needs}
 use Rattle.clipped.proofs.put.Statement.{statement}
@@ -12,7 +13,7 @@ add-result c = search needs
 
 -- src/lib.rt:17:9
 returns : tie.Need-returns
-returns c = past-end _ _ _ (c .if1 .taken)
+returns c = past-end refl (c .if1 .taken)
 
 -- src/lib.rt:19:5
 slice-write-room : tie.Need-slice-write-room
