@@ -1,5 +1,5 @@
 -- What the rules find at a command byte, by the table of commands, in the terms of the code.
-use mathlib.Core.Path.{_≡_, refl, _∙_}
+use mathlib.Core.Path.{_≡_, refl, sym, _∙_}
 use mathlib.Core.List.{List, [], _∷_}
 use mathlib.Core.Option.{Option, none, some}
 use Prim.Native.Nat.{ℕ, zero, suc, _-_, _≤_, _<_}
@@ -87,18 +87,12 @@ not-above : (w : ℕ) → (0 < w → ⊥) → 0 ≡ w
 not-above zero n = refl
 not-above (suc w) n = absurd (n (omega arith))
 
-pub no-operands : (b : ℕ) → Not-to b 8 → 0 ≡ operand-bytes b
+no-operands : (b : ℕ) → Not-to b 8 → 0 ≡ operand-bytes b
 no-operands b n =
     not-above (operand-bytes b) (λ h.
     let k = known b h in
     let l = past b 8 (k .0) n in
     omega arith)
-
-pub eighth : (b : ℕ) → 0 < operand-bytes b → Not-to b 7 → b ≡ 8
-eighth b h n =
-    let k = known b h in
-    let l = past b 7 (k .0) n in
-    omega arith
 
 -- ---- By the number of operand bytes
 
@@ -128,25 +122,23 @@ module _ (b : ℕ) (bs : List ℕ) where
   unfolding operand-bytes
   front-cut h = cut-by (form-of b commands) bs h
 
-  -- for a number k of the table the command computes
-  pub front-whole : (k : ℕ) → b ≡ k → (0 < operand-bytes b) × (operand-bytes b ≤ length bs) → front b bs ≡ whole (command-by (form-of k commands) bs) (width-of (form-of k commands))
+  -- no number of the table
+  pub front-none : Not-to b 8 → some unknown ≡ some (front b bs)
+  front-none n = rw (front-unknown (sym (no-operands b n)))
+
+  -- a number k of the table with w operand bytes: they are cut short, or there, and then the command computes
+  pub front-short : (k w : ℕ) → operand-bytes k ≡ w → b ≡ k → length bs < w → some cut ≡ some (front b bs)
+  front-short k w z e h = rw (front-cut (rw (e, z) h))
+
+  pub front-long : (k w : ℕ) → operand-bytes k ≡ w → b ≡ k → 0 < w → w ≤ length bs → front b bs ≡ whole (command-by (form-of k commands) bs) (width-of (form-of k commands))
   unfolding operand-bytes
-  front-whole k e h = rw (← e) (whole-by (form-of b commands) bs (h .0) (h .1))
+  front-long k w z e p h = rw (← e) (whole-by (form-of b commands) bs (rw (e, z) p) (rw (e, z) h))
 
 -- ---- The front of the rest of a session
 
 pub rest-end : (s : List ℕ) → length s ≡ 0 → none ≡ front-in s
 rest-end [] e = refl
 rest-end (b ∷ bs) e = absurd (omega arith)
-
-module _ (s : List ℕ) (w : ℕ) (n : length s ≡ 0 → ⊥) (is : w ≡ operand-bytes (getD s 0 0)) where
-  pub rest-unknown : w ≡ 0 → some unknown ≡ front-in s
-  rest-unknown e = rw (front-some s n, front-unknown (getD s 0 0) (drop 1 s) (omega arith))
-
-  pub rest-cut : length s ≤ w → some cut ≡ front-in s
-  rest-cut h =
-      let l : length (drop 1 s) < operand-bytes (getD s 0 0) = rw length-drop (omega arith) in
-      rw (front-some s n, front-cut (getD s 0 0) (drop 1 s) l)
 
 pub rest-whole : (s : List ℕ) (f : Option Front) → (length s ≡ 0 → ⊥) → f ≡ some (front (getD s 0 0) (take (length s - 1) (drop 1 s))) → f ≡ front-in s
 rest-whole s f n e = e ∙ rw (front-some s n, rest s 1)

@@ -1,12 +1,12 @@
 // A session's bytes: the command type, the reader that finds commands, and the header.
 ghost use mathlib.Core.Path.{_≡_};
-ghost use Prim.Native.Nat.{_<_, _≤_};
+ghost use Prim.Native.Nat.{_≤_};
 ghost use mathlib.Core.Option.{some};
 ghost use lib.ListN.{length};
 ghost use lib.Dec.{ltb};
 ghost use Rattle.rules.specs.Table.{all};
 ghost use Rattle.rules.specs.Bytes as rules;
-ghost use Rattle.wire.specs.Meaning.{front-of, front-in, operand-bytes, contents, write-of, opened};
+ghost use Rattle.wire.specs.Meaning.{front-of, front-in, contents, write-of, opened};
 use limits::MAX_SESSION;
 
 // The limits of a header's counts, in their types.
@@ -42,23 +42,6 @@ pub enum Opened {
     Bad,
 }
 
-// How many operand bytes a command byte asks for, 0 where it is no command.
-fn operands(b: u8) -> usize
-    ensures { λ r. ⌜ r ≡ operand-bytes b ⌝ }
-{
-    match b {
-        1 => 1,
-        2 => 2,
-        3 => 6,
-        4 => 1,
-        5 => 1,
-        6 => 1,
-        7 => 2,
-        8 => 1,
-        _ => 0,
-    }
-}
-
 // Four bytes, most significant first.
 pub fn content(a: u8, b: u8, c: u8, d: u8) -> u32
     ensures { λ r. ⌜ r ≡ contents a b c d ⌝ }
@@ -75,20 +58,61 @@ fn write(s: &[u8]) -> Command
     Command::Write(s[0], content(s[2], s[3], s[4], s[5]), k)
 }
 
-// The command of a command byte with its operands behind it. Each arm names its width: a table's answer would be waited for at every command.
+// What a command byte and the bytes behind it hold. Each arm names its width, and tests it by itself: a table's answer would be waited for at
+// every command.
 fn decoded(b: u8, s: &[u8]) -> Next
-    requires { ⌜ (0 < operand-bytes b) × (operand-bytes b ≤ length (now s)) ⌝ }
     ensures { λ r. ⌜ front-of r ≡ some (rules.front b (now (s .entry))) ⌝ }
 {
     match b {
-        1 => Next::Step(Command::Begin(s[0]), 1),
-        2 => Next::Step(Command::Read(s[0], s[1] as u16), 2),
-        3 => Next::Step(write(s), 6),
-        4 => Next::Step(Command::Submit(s[0]), 1),
-        5 => Next::Step(Command::Take(s[0]), 1),
-        6 => Next::Step(Command::Decide(s[0]), 1),
-        7 => Next::Step(Command::Apply(s[0], s[1]), 2),
-        _ => Next::Step(Command::GiveUp(s[0]), 1),
+        1 => {
+            if s.len() < 1 {
+                return Next::Cut;
+            }
+            Next::Step(Command::Begin(s[0]), 1)
+        }
+        2 => {
+            if s.len() < 2 {
+                return Next::Cut;
+            }
+            Next::Step(Command::Read(s[0], s[1] as u16), 2)
+        }
+        3 => {
+            if s.len() < 6 {
+                return Next::Cut;
+            }
+            Next::Step(write(s), 6)
+        }
+        4 => {
+            if s.len() < 1 {
+                return Next::Cut;
+            }
+            Next::Step(Command::Submit(s[0]), 1)
+        }
+        5 => {
+            if s.len() < 1 {
+                return Next::Cut;
+            }
+            Next::Step(Command::Take(s[0]), 1)
+        }
+        6 => {
+            if s.len() < 1 {
+                return Next::Cut;
+            }
+            Next::Step(Command::Decide(s[0]), 1)
+        }
+        7 => {
+            if s.len() < 2 {
+                return Next::Cut;
+            }
+            Next::Step(Command::Apply(s[0], s[1]), 2)
+        }
+        8 => {
+            if s.len() < 1 {
+                return Next::Cut;
+            }
+            Next::Step(Command::GiveUp(s[0]), 1)
+        }
+        _ => Next::Unknown,
     }
 }
 
@@ -99,15 +123,7 @@ pub fn read_next(rest: &[u8]) -> Next
     if rest.len() == 0 {
         return Next::End;
     }
-    let b = rest[0];
-    let w = operands(b);
-    if w == 0 {
-        return Next::Unknown;
-    }
-    if rest.len() <= w {
-        return Next::Cut;
-    }
-    decoded(b, &rest[1..])
+    decoded(rest[0], &rest[1..])
 }
 
 // A byte of the session, 0 beyond its end.

@@ -1,104 +1,141 @@
--- Each arm's line of the table computes; the last arm is 8, the one number left that has operands.
-use mathlib.Core.Path.{_≡_, ap}
+-- Each arm's line of the table computes; behind the last arm no line is left.
+use mathlib.Core.Path.{refl}
 use native.Mathlib.Omega.{arith}
 use borrow.Author.Needs.{needs}
 use Rattle.wire.specs.Meaning.{operand-bytes}
-use Rattle.wire.proofs.Front.{eighth, front-whole, first-byte, second-byte, last-bytes}
+use Rattle.wire.proofs.Front.{front-none, front-short, front-long, first-byte, second-byte, last-bytes}
 use Rattle.wire.proofs.decoded.Statement.{statement}
 use Rattle.wire.proofs.decoded.Tie as tie
 
-shared-slice-read-t5 : tie.Need-shared-slice-read-t5
-shared-slice-read-t5 c = search needs
-
-shared-slice-read-t8 : tie.Need-shared-slice-read-t8
-shared-slice-read-t8 c = search needs
-
-shared-slice-read-t10 : tie.Need-shared-slice-read-t10
-unfolding operand-bytes
-shared-slice-read-t10 c =
-    let w : operand-bytes (c .before .before .before .before .args .b) ≡ 2 = ap operand-bytes (c .before .before .match .keys2) in
-    omega arith
-
-cast-t11 : tie.Need-cast-t11
-cast-t11 c = omega (arith, c .shared-slice-known4 .given 1)
-
-write-requires : tie.Need-write-requires
-unfolding operand-bytes
-write-requires c κs =
-    let w : operand-bytes (c .before .before .args .b) ≡ 6 = ap operand-bytes (c .match .keys3) in
-    omega arith
-
-shared-slice-read-t15 : tie.Need-shared-slice-read-t15
-shared-slice-read-t15 c = search needs
-
-shared-slice-read-t18 : tie.Need-shared-slice-read-t18
-shared-slice-read-t18 c = search needs
-
-shared-slice-read-t21 : tie.Need-shared-slice-read-t21
-shared-slice-read-t21 c = search needs
-
-shared-slice-read-t24 : tie.Need-shared-slice-read-t24
-shared-slice-read-t24 c = search needs
-
-shared-slice-read-t26 : tie.Need-shared-slice-read-t26
-unfolding operand-bytes
-shared-slice-read-t26 c =
-    let w : operand-bytes (c .before .before .before .before .args .b) ≡ 2 = ap operand-bytes (c .before .before .match .keys7) in
-    omega arith
-
-shared-slice-read-t29 : tie.Need-shared-slice-read-t29
-shared-slice-read-t29 c = search needs
-
 returns : tie.Need-returns
-returns c = rw (front-whole _ _ 1 (c .before .match .keys1) (c .before .before .before .pre), first-byte)
+unfolding operand-bytes
+returns c = front-short (c .before .before .before .args .b) (c .before .before .before .args .s .now) 1 1 refl (c .before .match .keys1) (c .if1 .taken)
+
+shared-slice-read-t7 : tie.Need-shared-slice-read-t7
+shared-slice-read-t7 c = search needs
 
 returns-2 : tie.Need-returns-2
-returns-2 c = rw (front-whole _ _ 2 (c .before .before .match .keys2) (c .before .before .before .before .pre), first-byte, second-byte)
+unfolding operand-bytes
+returns-2 c = front-short (c .before .before .before .args .b) (c .before .before .before .args .s .now) 2 2 refl (c .before .match .keys2) (c .if2 .taken)
+
+shared-slice-read-t12 : tie.Need-shared-slice-read-t12
+shared-slice-read-t12 c = search needs
+
+shared-slice-read-t14 : tie.Need-shared-slice-read-t14
+shared-slice-read-t14 c = search needs
+
+cast-t15 : tie.Need-cast-t15
+cast-t15 c = omega (arith, c .shared-slice-known4 .given 1)
 
 returns-3 : tie.Need-returns-3
 unfolding operand-bytes
-returns-3 c =
-    let p = c .before .before .before .pre in
-    let w : operand-bytes (c .before .before .before .args .b) ≡ 6 = ap operand-bytes (c .before .match .keys3) in
-    rw (front-whole _ _ 3 (c .before .match .keys3) p, c .write .ensures, first-byte, second-byte, last-bytes (c .before .before .before .args .s .now) (omega arith))
+returns-3 c = front-short (c .before .before .before .args .b) (c .before .before .before .args .s .now) 3 6 refl (c .before .match .keys3) (c .if3 .taken)
+
+write-requires : tie.Need-write-requires
+write-requires c κs = search needs
 
 returns-4 : tie.Need-returns-4
-returns-4 c = rw (front-whole _ _ 4 (c .before .match .keys4) (c .before .before .before .pre), first-byte)
+unfolding operand-bytes
+returns-4 c = front-short (c .before .before .before .args .b) (c .before .before .before .args .s .now) 4 1 refl (c .before .match .keys4) (c .if4 .taken)
+
+shared-slice-read-t23 : tie.Need-shared-slice-read-t23
+shared-slice-read-t23 c = search needs
 
 returns-5 : tie.Need-returns-5
-returns-5 c = rw (front-whole _ _ 5 (c .before .match .keys5) (c .before .before .before .pre), first-byte)
+unfolding operand-bytes
+returns-5 c = front-short (c .before .before .before .args .b) (c .before .before .before .args .s .now) 5 1 refl (c .before .match .keys5) (c .if5 .taken)
+
+shared-slice-read-t28 : tie.Need-shared-slice-read-t28
+shared-slice-read-t28 c = search needs
 
 returns-6 : tie.Need-returns-6
-returns-6 c = rw (front-whole _ _ 6 (c .before .match .keys6) (c .before .before .before .pre), first-byte)
+unfolding operand-bytes
+returns-6 c = front-short (c .before .before .before .args .b) (c .before .before .before .args .s .now) 6 1 refl (c .before .match .keys6) (c .if6 .taken)
+
+shared-slice-read-t33 : tie.Need-shared-slice-read-t33
+shared-slice-read-t33 c = search needs
 
 returns-7 : tie.Need-returns-7
-returns-7 c = rw (front-whole _ _ 7 (c .before .before .match .keys7) (c .before .before .before .before .pre), first-byte, second-byte)
+unfolding operand-bytes
+returns-7 c = front-short (c .before .before .before .args .b) (c .before .before .before .args .s .now) 7 2 refl (c .before .match .keys7) (c .if7 .taken)
+
+shared-slice-read-t38 : tie.Need-shared-slice-read-t38
+shared-slice-read-t38 c = search needs
+
+shared-slice-read-t40 : tie.Need-shared-slice-read-t40
+shared-slice-read-t40 c = search needs
 
 returns-8 : tie.Need-returns-8
-returns-8 c =
-    let p = c .before .before .before .pre in
-    rw (front-whole _ _ 8 (eighth _ (p .0) (c .before .match .rest)) p, first-byte)
+unfolding operand-bytes
+returns-8 c = front-short (c .before .before .before .args .b) (c .before .before .before .args .s .now) 8 1 refl (c .before .match .keys8) (c .if8 .taken)
+
+shared-slice-read-t45 : tie.Need-shared-slice-read-t45
+shared-slice-read-t45 c = search needs
+
+returns-9 : tie.Need-returns-9
+unfolding operand-bytes
+returns-9 c = rw (front-long (c .before .before .before .before .args .b) (c .before .before .before .before .args .s .now) 1 1 refl (c .before .before .match .keys1) (omega arith) (omega arith), first-byte)
+
+returns-10 : tie.Need-returns-10
+unfolding operand-bytes
+returns-10 c = rw (front-long (c .before .before .before .before .before .args .b) (c .before .before .before .before .before .args .s .now) 2 2 refl (c .before .before .before .match .keys2) (omega arith) (omega arith), first-byte, second-byte)
+
+returns-11 : tie.Need-returns-11
+unfolding operand-bytes
+returns-11 c = rw (front-long (c .before .before .before .before .args .b) (c .before .before .before .before .args .s .now) 3 6 refl (c .before .before .match .keys3) (omega arith) (omega arith), c .write .ensures, first-byte, second-byte, last-bytes (c .before .before .before .before .args .s .now) (omega arith))
+
+returns-12 : tie.Need-returns-12
+unfolding operand-bytes
+returns-12 c = rw (front-long (c .before .before .before .before .args .b) (c .before .before .before .before .args .s .now) 4 1 refl (c .before .before .match .keys4) (omega arith) (omega arith), first-byte)
+
+returns-13 : tie.Need-returns-13
+unfolding operand-bytes
+returns-13 c = rw (front-long (c .before .before .before .before .args .b) (c .before .before .before .before .args .s .now) 5 1 refl (c .before .before .match .keys5) (omega arith) (omega arith), first-byte)
+
+returns-14 : tie.Need-returns-14
+unfolding operand-bytes
+returns-14 c = rw (front-long (c .before .before .before .before .args .b) (c .before .before .before .before .args .s .now) 6 1 refl (c .before .before .match .keys6) (omega arith) (omega arith), first-byte)
+
+returns-15 : tie.Need-returns-15
+unfolding operand-bytes
+returns-15 c = rw (front-long (c .before .before .before .before .before .args .b) (c .before .before .before .before .before .args .s .now) 7 2 refl (c .before .before .before .match .keys7) (omega arith) (omega arith), first-byte, second-byte)
+
+returns-16 : tie.Need-returns-16
+unfolding operand-bytes
+returns-16 c = rw (front-long (c .before .before .before .before .args .b) (c .before .before .before .before .args .s .now) 8 1 refl (c .before .before .match .keys8) (omega arith) (omega arith), first-byte)
+
+returns-17 : tie.Need-returns-17
+returns-17 c = front-none (c .before .before .args .b) (c .before .before .args .s .now) (c .match .rest)
 
 pub decoded-spec : {M : Type 1} → statement M
 decoded-spec =
     tie.close
     (tie.spec
-    shared-slice-read-t5
-    shared-slice-read-t8
-    shared-slice-read-t10
-    cast-t11
-    write-requires
-    shared-slice-read-t15
-    shared-slice-read-t18
-    shared-slice-read-t21
-    shared-slice-read-t24
-    shared-slice-read-t26
-    shared-slice-read-t29
     returns
+    shared-slice-read-t7
     returns-2
+    shared-slice-read-t12
+    shared-slice-read-t14
+    cast-t15
     returns-3
+    write-requires
     returns-4
+    shared-slice-read-t23
     returns-5
+    shared-slice-read-t28
     returns-6
+    shared-slice-read-t33
     returns-7
-    returns-8)
+    shared-slice-read-t38
+    shared-slice-read-t40
+    returns-8
+    shared-slice-read-t45
+    returns-9
+    returns-10
+    returns-11
+    returns-12
+    returns-13
+    returns-14
+    returns-15
+    returns-16
+    returns-17)
