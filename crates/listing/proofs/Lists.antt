@@ -13,7 +13,8 @@ use Rattle.rules.specs.Bytes.{Form, widths}
 use Rattle.rules.specs.Writing.{Instruction, Listing, steps, stops, at, also, form, operands-fit, numbers, list-by, list-from}
 use Rattle.rules.proofs.Table.{bool}
 use Rattle.rules.proofs.Writing.{list-skip}
-use Rattle.forms.specs.Slots.{operands}
+use Rattle.forms.specs.Slots.{operands, Known}
+use Rattle.forms.proofs.Slots.{form-known}
 use Rattle.listing.specs.declared.Counted.the-variants.{Steps, Refused}
 use Rattle.listing.specs.Meaning.{earned-by, earned, step-at, from, Counts}
 
@@ -47,6 +48,10 @@ module _ (n m : ℕ) (b : List ℕ) (p : ℕ) (l : p < length b) where
       rw x (earned-some n m (getD b p 0) p (form (getD b p 0)) (drop (suc p) b) (λ w. list-from n m w (suc p) (drop (suc p) b)) e (rw x at q) z)
 
   module _ (z : 0 ≡ earned n m (drop p b)) where
+    pub next-known : Known (getD b p 0)
+    next-known =
+        earned-none n m (form (getD b p 0)) (drop (suc p) b) (rw (drop-cons b p 0 l) at z) (λ f q long fit. form-known (getD b p 0) f q)
+
     pub next-fits : p + (1 + widths (operands (getD b p 0))) ≤ length b
     unfolding operands
     next-fits =

@@ -1,115 +1,127 @@
 -- The numbers of a step's operands, from its bytes, and what they earn.
 use Prim.Native.Nat.{ℕ, suc, _+_, _-_, _≤_, _<_}
-use mathlib.Core.Path.{_≡_, sym, _∙_}
-use mathlib.Core.Bool.{true, false, _&&_, cond}
-use mathlib.Core.List.{List}
-use native.Mathlib.Nat.{add-zero}
+use mathlib.Core.Path.{_≡_, refl, sym, _∙_}
+use mathlib.Core.Bool.{Bool, true, false, not, _&&_, and-true, cond}
+use mathlib.Core.List.{List, [], _∷_}
 use native.Mathlib.Omega.{arith}
-use borrow.Author.Tests.{lt-ltb, le-ltb}
-use lib.Dec.{ltb}
+use borrow.Author.Tests.{lt-ltb, le-ltb, ne-eqb}
+use lib.Dec.{eqb, ltb}
 use lib.ListN.{length, getD, drop, length-drop}
-use lib.Seq.{getD-drop, drop-drop, drop-cons}
-use Rattle.rules.specs.Bytes.{widths}
-use Rattle.rules.specs.Writing.{operands-fit, numbers}
+use lib.Seq.{getD-drop, drop-cons}
+use Rattle.rules.specs.Bytes.{Operand, widths}
+use Rattle.rules.specs.Writing.{operands-fit, numbers, words, Bytes}
+use Rattle.rules.proofs.Table.{same?}
 use Rattle.wire.specs.Meaning.{contents}
-use Rattle.wire.proofs.Front.{first-byte, four-bytes}
-use Rattle.forms.specs.declared.Kinds.{Kinds}
-use Rattle.forms.specs.Slots.{three, step, operand-of, slot, operands, Has, is-present, slot-limit, slot-width, value}
-use Rattle.forms.proofs.Slots.{numbers-by, few, unknown-number, present-form, has-widths, fits-by}
+use Rattle.wire.proofs.Front.{first-byte, second-byte, last-bytes}
+use Rattle.forms.specs.Slots.{three, step, slot, operands, is-present, Known, slot-limit}
+use Rattle.forms.proofs.Slots.{unknown-form, known-form, operands-fit-by}
+use Rattle.forms.proofs.Shapes.{Shape, short, middle, long, shape}
 use Rattle.listing.specs.Meaning.{earned, step-at}
 
--- ---- The number at a slot
+-- ---- A number where there is one
 
-module _ (b : List ℕ) (p : ℕ) where
-  at-byte : (i : ℕ) → getD (drop p b) i 0 ≡ getD b (p + i) 0
-  at-byte i = getD-drop p b i 0
+only-if : (t : Bool) (v : ℕ) → cond (not t) v 0 ≡ cond t 0 v
+only-if true v = refl
+only-if false v = refl
 
-  pub one-number : {w : ℕ} → w ≡ 1 → getD b p 0 ≡ value w (drop p b)
-  one-number e = rw e (sym (first-byte (drop p b) ∙ at-byte 0 ∙ rw add-zero))
+-- the second operand of a step of so many bytes
+pub second-index : (size p n r : ℕ) → r ≡ cond (not (eqb size 2)) 1 0 → 2 ≤ size → p + size ≤ n → p + 1 + r < n
+second-index size p n r e l h = same? size 2
+    (λ q. let z : r ≡ 0 = e ∙ rw q in omega arith)
+    (λ q. let z : r ≡ 1 = e ∙ rw (ne-eqb size 2 q) in omega arith)
 
-  pub four-number : {w : ℕ} → w ≡ 4 → p + 4 ≤ length b → contents (getD b p 0) (getD b (p + 1) 0) (getD b (p + 2) 0) (getD b (p + 3) 0) ≡ value w (drop p b)
-  four-number e l =
-      let long : 4 ≤ length (drop p b) = rw length-drop (omega arith) in
-      rw e (sym (four-bytes (drop p b) long ∙ rw (at-byte 0, at-byte 1, at-byte 2, at-byte 3, add-zero)))
+pub second-is : (b : List ℕ) (size p r v : ℕ) → r ≡ cond (not (eqb size 2)) 1 0 → v ≡ cond (not (eqb size 2)) (getD b (p + 1 + r) 0) 0 → v ≡ cond (eqb size 2) 0 (getD b (p + 2) 0)
+second-is b size p r v e d = same? size 2
+    (λ q. d ∙ rw q)
+    (λ q.
+    let n = ne-eqb size 2 q in
+    let z : r ≡ 1 = e ∙ rw n in
+    let two : p + 1 + 1 ≡ p + 2 = omega arith in
+    d ∙ rw (n, z, two))
 
-  pub no-number : {w : ℕ} → w ≡ 0 → 0 ≡ value w (drop p b)
-  no-number e = rw e
+-- ---- The three numbers by the shape of the operands
 
--- ---- The three numbers of the step at offset p
+module _ (bs : List ℕ) where
+  abbrev second-of : List Operand → ℕ
+  second-of os = cond (eqb (1 + widths os) 2) 0 (getD bs 1 0)
 
-abbrev w₀ : Kinds → ℕ
-w₀ r = slot-width (operand-of (r .0))
+  abbrev content-of : ℕ
+  content-of = contents (getD bs 2 0) (getD bs 3 0) (getD bs 4 0) (getD bs 5 0)
 
-abbrev w₁ : Kinds → ℕ
-w₁ r = slot-width (operand-of (r .1))
+  abbrev third-of : List Operand → ℕ
+  third-of os = cond (eqb (1 + widths os) 7) content-of 0
 
-abbrev w₂ : Kinds → ℕ
-w₂ r = slot-width (operand-of (r .2))
+  numbers-by : (os : List Operand) → widths os ≤ length bs → Shape os → numbers os bs ≡ three (getD bs 0 0) (second-of os) (third-of os)
+  numbers-by _ fits (short o a) = rw (a, first-byte)
+  numbers-by _ fits (middle o p a b) = rw (a, b, first-byte, second-byte)
+  numbers-by _ fits (long o p a b) = rw (a, b, first-byte, second-byte, last-bytes bs (omega arith))
 
-module _ (b : List ℕ) (p : ℕ) (r : Kinds) (h : Has (getD b p 0) r) where
-  pub numbers-at : numbers (operands (getD b p 0)) (drop (suc p) b) ≡ three (value (w₀ r) (drop (p + 1) b)) (value (w₁ r) (drop (p + (1 + w₀ r)) b)) (value (w₂ r) (drop (p + (1 + w₀ r + w₁ r)) b))
-  numbers-at =
-      let a : p + 1 ≡ suc p = omega arith in
-      let c : p + (1 + w₀ r) ≡ suc p + w₀ r = omega arith in
-      let d : p + (1 + w₀ r + w₁ r) ≡ suc p + w₀ r + w₁ r = omega arith in
-      numbers-by (operands (getD b p 0)) (drop (suc p) b) (few (getD b p 0)) ∙ rw (← h .first, ← h .second, ← h .third, a, c, d, drop-drop (w₀ r) (suc p) b, drop-drop (w₁ r) (suc p + w₀ r) b)
+  -- a content passes as it is
+  third-fits : (n m : ℕ) (os : List Operand) → Bytes bs → Shape os → ltb (third-of os) (slot-limit n m (slot os 2)) ≡ true
+  third-fits n m _ s (short o a) = rw a
+  third-fits n m _ s (middle o p a b) = rw (a, b)
+  third-fits n m _ s (long o p a b) = rw (a, b) (lt-ltb content-of 4294967296 (omega (arith, s 2, s 3, s 4, s 5)))
 
--- ---- What it earns
+-- ---- What the step at an offset earns
 
-module _ (n m : ℕ) (b : List ℕ) (p : ℕ) (r : Kinds) (h : Has (getD b p 0) r) (l : p < length b) where
-  pub step-unknown : is-present (operand-of (r .0)) ≡ false → 2 ≡ earned n m (drop p b)
-  step-unknown e = rw (drop-cons b p 0 l, unknown-number (getD b p 0) (rw (h .first) at e))
+module _ (n m : ℕ) (b : List ℕ) (p : ℕ) (l : p < length b) where
+  abbrev c : ℕ
+  c = getD b p 0
 
-  module _ (e : is-present (operand-of (r .0)) ≡ true) where
-    known : earned n m (drop p b)
-        ≡ cond (ltb (length (drop (suc p) b)) (widths (operands (getD b p 0)))) 3 (cond (operands-fit n m (operands (getD b p 0)) (numbers (operands (getD b p 0)) (drop (suc p) b))) 0 4)
+  pub step-unknown : is-present (slot (operands c) 0) ≡ false → 2 ≡ earned n m (drop p b)
+  step-unknown e = rw (drop-cons b p 0 l, unknown-form c e)
+
+  module _ (k : Known c) where
+    known : earned n m (drop p b) ≡ cond (ltb (length (drop (suc p) b)) (widths (operands c))) 3 (cond (operands-fit n m (operands c) (numbers (operands c) (drop (suc p) b))) 0 4)
     unfolding operands
-    known = present-form (getD b p 0) (rw (h .first) at e) (λ f q. rw (drop-cons b p 0 l, q))
+    known = known-form c k (λ f q. rw (drop-cons b p 0 l, q))
 
-    pub step-cut : length b - p < 1 + w₀ r + w₁ r + w₂ r → 3 ≡ earned n m (drop p b)
-    step-cut c =
-        let short : length (drop (suc p) b) < widths (operands (getD b p 0)) = rw length-drop (omega (arith, has-widths h .sum)) in
-        rw (known, lt-ltb (length (drop (suc p) b)) (widths (operands (getD b p 0))) short)
+    pub step-cut : length b - p < 1 + widths (operands c) → 3 ≡ earned n m (drop p b)
+    step-cut h =
+        let short : length (drop (suc p) b) < widths (operands c) = rw length-drop (omega arith) in
+        rw (known, lt-ltb (length (drop (suc p) b)) (widths (operands c)) short)
 
-    module _ (c : 1 + w₀ r + w₁ r + w₂ r ≤ length b - p) where
-      abbrev v₀ : ℕ
-      v₀ = value (w₀ r) (drop (p + 1) b)
+    module _ (h : 1 + widths (operands c) ≤ length b - p) where
+      within : widths (operands c) ≤ length (drop (suc p) b)
+      within = rw length-drop (omega arith)
 
-      abbrev v₁ : ℕ
-      v₁ = value (w₁ r) (drop (p + (1 + w₀ r)) b)
-
-      abbrev v₂ : ℕ
-      v₂ = value (w₂ r) (drop (p + (1 + w₀ r + w₁ r)) b)
-
-      judged : earned n m (drop p b) ≡ cond (ltb v₀ (slot-limit n m (operand-of (r .0))) && (ltb v₁ (slot-limit n m (operand-of (r .1))) && ltb v₂ (slot-limit n m (operand-of (r .2))))) 0 4
-      judged =
-          let long : widths (operands (getD b p 0)) ≤ length (drop (suc p) b) = rw length-drop (omega (arith, has-widths h .sum)) in
-          known ∙ rw (le-ltb (length (drop (suc p) b)) (widths (operands (getD b p 0))) long, numbers-at b p r h, fits-by n m v₀ v₁ v₂ (operands (getD b p 0)) (few (getD b p 0)), ← h .first, ← h .second, ← h .third)
-
-      module _ (x : ℕ) (ex : x ≡ v₀) where
-        pub first-bad : slot-limit n m (operand-of (r .0)) ≤ x → 4 ≡ earned n m (drop p b)
-        first-bad o = rw (judged, ← ex, le-ltb x (slot-limit n m (operand-of (r .0))) o)
-
-        module _ (o₀ : x < slot-limit n m (operand-of (r .0))) (y : ℕ) (ey : y ≡ v₁) where
-          pub second-bad : slot-limit n m (operand-of (r .1)) ≤ y → 4 ≡ earned n m (drop p b)
-          second-bad o = rw (judged, ← ex, ← ey, lt-ltb x (slot-limit n m (operand-of (r .0))) o₀, le-ltb y (slot-limit n m (operand-of (r .1))) o)
-
-          module _ (o₁ : y < slot-limit n m (operand-of (r .1))) (z : ℕ) (ez : z ≡ v₂) where
-            -- the first two numbers pass, and the third decides
-            third : earned n m (drop p b) ≡ cond (ltb z (slot-limit n m (operand-of (r .2)))) 0 4
-            third = judged ∙ rw (← ex, ← ey, ← ez, lt-ltb x (slot-limit n m (operand-of (r .0))) o₀, lt-ltb y (slot-limit n m (operand-of (r .1))) o₁)
-
-            pub third-bad : slot-limit n m (operand-of (r .2)) ≤ z → 4 ≡ earned n m (drop p b)
-            third-bad o = rw (third, le-ltb z (slot-limit n m (operand-of (r .2))) o)
-
-            pub none-bad : z < slot-limit n m (operand-of (r .2)) → 0 ≡ earned n m (drop p b)
-            none-bad o = rw (third, lt-ltb z (slot-limit n m (operand-of (r .2))) o)
+      -- the first two operands decide
+      pub step-judged : Bytes b → (y : ℕ) (f : Bool) → y ≡ cond (eqb (1 + widths (operands c)) 2) 0 (getD b (p + 2) 0)
+          → f ≡ ltb (getD b (p + 1) 0) (slot-limit n m (slot (operands c) 0)) && ltb y (slot-limit n m (slot (operands c) 1)) → cond f 0 4 ≡ earned n m (drop p b)
+      step-judged s y f ey e =
+          let bs = drop (suc p) b in
+          let behind : (i : ℕ) → getD bs i 0 ≡ getD b (suc p + i) 0 = λ i. getD-drop (suc p) b i 0 in
+          let one : suc p + 0 ≡ p + 1 = omega arith in
+          let two : suc p + 1 ≡ p + 2 = omega arith in
+          let bytes : Bytes bs = λ i. rw (behind i) (s (suc p + i)) in
+          let third = third-fits bs n m (operands c) bytes (shape c k) in
+          sym (known ∙ rw (le-ltb (length bs) (widths (operands c)) within, numbers-by bs (operands c) within (shape c k), operands-fit-by n m (getD bs 0 0) (second-of bs (operands c)) (third-of bs (operands c)) c, third, and-true, behind 0, behind 1, one, two, ← ey, ← e))
 
 -- ---- The step itself
 
-module _ (b : List ℕ) (p : ℕ) (r : Kinds) (h : Has (getD b p 0) r) where
-  pub step-is : (x y z : ℕ) → x ≡ value (w₀ r) (drop (p + 1) b) → y ≡ value (w₁ r) (drop (p + 1 + w₀ r) b) → z ≡ value (w₂ r) (drop (p + 1 + w₀ r + w₁ r) b) → step (getD b p 0) x y z ≡ step-at b p
-  step-is x y z ex ey ez =
-      let c : p + 1 + w₀ r ≡ p + (1 + w₀ r) = omega arith in
-      let d : p + 1 + w₀ r + w₁ r ≡ p + (1 + w₀ r + w₁ r) = omega arith in
-      rw (numbers-at b p r h, ← c, ← d, ex, ey, ez)
+module _ (b : List ℕ) (p : ℕ) (k : Known (getD b p 0)) (h : p + (1 + widths (operands (getD b p 0))) ≤ length b) where
+  abbrev os : List Operand
+  os = operands (getD b p 0)
+
+  numbers-at : numbers os (drop (suc p) b) ≡ three (getD (drop (suc p) b) 0 0) (second-of (drop (suc p) b) os) (third-of (drop (suc p) b) os)
+  numbers-at =
+      let fits : widths os ≤ length (drop (suc p) b) = rw length-drop (omega arith) in
+      numbers-by (drop (suc p) b) os fits (shape (getD b p 0) k)
+
+  pub step-four : length (words (step-at b p ∷ [])) ≡ 4
+  unfolding words
+  step-four = rw numbers-at
+
+  step-is : (y z : ℕ) → y ≡ cond (eqb (1 + widths os) 2) 0 (getD b (p + 2) 0)
+      → z ≡ cond (eqb (1 + widths os) 7) (contents (getD b (p + 3) 0) (getD b (p + 4) 0) (getD b (p + 5) 0) (getD b (p + 6) 0)) 0 → step (getD b p 0) (getD b (p + 1) 0) y z ≡ step-at b p
+  step-is y z ey ez =
+      let at : (i j : ℕ) → suc p + i ≡ j → getD (drop (suc p) b) i 0 ≡ getD b j 0 = λ i j e. getD-drop (suc p) b i 0 ∙ rw e in
+      rw (numbers-at, at 0 (p + 1) (omega arith), at 1 (p + 2) (omega arith), at 2 (p + 3) (omega arith), at 3 (p + 4) (omega arith), at 4 (p + 5) (omega arith), at 5 (p + 6) (omega arith), ey, ez)
+
+  pub step-whole : (y z : ℕ) → y ≡ cond (not (eqb (1 + widths os) 2)) (getD b (p + 2) 0) 0
+      → z ≡ cond (eqb (1 + widths os) 7) (contents (getD b (p + 3) 0) (getD b (p + 4) 0) (getD b (p + 5) 0) (getD b (p + 6) 0)) 0 → step (getD b p 0) (getD b (p + 1) 0) y z ≡ step-at b p
+  step-whole y z ey ez = step-is y z (ey ∙ only-if (eqb (1 + widths os) 2) (getD b (p + 2) 0)) ez
+
+  -- with fewer bytes left than the longest step has there is no content
+  pub step-last : (y : ℕ) → y ≡ cond (eqb (1 + widths os) 2) 0 (getD b (p + 2) 0) → length b - p < 7 → step (getD b p 0) (getD b (p + 1) 0) y 0 ≡ step-at b p
+  step-last y ey l = step-is y 0 ey (rw (ne-eqb (1 + widths os) 7 (λ e. omega arith)))

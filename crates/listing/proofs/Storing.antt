@@ -9,21 +9,17 @@ use lib.Seq.{drop-cons}
 use Rattle.rules.specs.Bytes.{widths}
 use Rattle.rules.specs.Writing.{Instruction, Listing, steps, stops, form, list-from, words}
 use Rattle.rules.proofs.Writing.{list-inverts}
-use Rattle.forms.specs.Slots.{operands}
-use Rattle.forms.proofs.Slots.{numbers-by, few}
+use Rattle.forms.specs.Slots.{operands, Known}
 use Rattle.text.specs.Wrote.{Wrote}
 use Rattle.text.proofs.Writing.{wrote-none, wrote-as, wrote-then, wrote-length}
 use Rattle.listing.specs.Meaning.{earned, step-at, from, Fits, Stored}
-use Rattle.listing.proofs.Lists.{onto, Passed, passed-none, passed-next, passed-whole, next-fits}
+use Rattle.listing.proofs.Operands.{step-four}
+use Rattle.listing.proofs.Lists.{onto, Passed, passed-none, passed-next, passed-whole, next-known, next-fits}
 
 words-append : (xs ys : List Instruction) → words (xs ++ ys) ≡ words xs ++ words ys
 unfolding words
 words-append [] ys = refl
 words-append (x ∷ xs) ys = rw (words-append xs ys) (ap (λ (l : List ℕ). x .number ∷ l) (sym (append-assoc (x .operands) (words xs) (words ys))))
-
-step-four : (b : List ℕ) (p : ℕ) → length (words (step-at b p ∷ [])) ≡ 4
-unfolding words
-step-four b p = rw (numbers-by (operands (getD b p 0)) (drop (suc p) b) (few (getD b p 0)))
 
 -- a step of a list that is read passes
 passes-here : (n m : ℕ) (b : List ℕ) (p : ℕ) (js : List Instruction) → p < length b → from n m p b ≡ steps js → (0 ≡ earned n m (drop p b)) × (1 ≤ length js)
@@ -69,6 +65,9 @@ module _ {b before : List ℕ} {start p i : ℕ} {after : List ℕ} (s : Storing
     pub storing-room : i + 4 ≤ length after
     storing-room = omega (arith, ahead .1, s .index, s .room, storing-length)
 
+    pub storing-known : Known (getD b p 0)
+    storing-known = next-known (s .n) (s .m) b p l (ahead .0)
+
     pub storing-fits : p + (1 + widths (operands (getD b p 0))) ≤ length b
     storing-fits = next-fits (s .n) (s .m) b p l (ahead .0)
 
@@ -76,7 +75,7 @@ module _ {b before : List ℕ} {start p i : ℕ} {after : List ℕ} (s : Storing
     storing-next w {j} {next} e t =
         let all = wrote-then (s .wrote) t in
         let text = sym (words-append (s .passed .so-far) (step-at b p ∷ [])) in
-        let four = step-four b p in
+        let four = step-four b p storing-known storing-fits in
         record {
           n = s .n;
           m = s .m;

@@ -15,6 +15,7 @@ use Rattle.rules.proofs.Table.{and-l}
 use Rattle.rules.proofs.Writing.{list-inverts}
 use Rattle.wire.proofs.Header.{opens-has}
 use Rattle.wire.proofs.Opening.{Opening}
+use Rattle.forms.specs.Columns.{Ranged}
 use Rattle.text.specs.Wrote.{Wrote}
 use Rattle.text.proofs.Writing.{wrote-front}
 use Rattle.listing.specs.declared.Counted.{Counted}
@@ -100,3 +101,9 @@ module _ (b room : List ℕ) where
 -- no more steps than a session has bytes
 pub few-steps : (b : List ℕ) (n m : ℕ) → Opening b n m → (r : Counted) (q : ℕ) → Few (length b) r → r ≡ Steps q → q ≤ max-session
 few-steps b n m o r q f e = let l : q ≤ length b = rw e at f in omega (arith, opens-has b (o .opened-well) .0 .size)
+
+-- its counts are in range
+pub counts-fit : (b : List ℕ) (n m : ℕ) → Opening b n m → Ranged n m
+counts-fit b n m o =
+    let h = opens-has b (o .opened-well) .0 in
+    ((omega arith, omega arith), (omega arith, omega arith))

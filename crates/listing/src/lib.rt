@@ -1,14 +1,19 @@
 // Reading a session: its header and all its steps, in words. First everything is tested, then written.
-use forms::Kind;
+use forms::LONGEST;
+use forms::Largest;
+use forms::SHORTEST;
 use forms::STEP_WORDS;
 use wire::Opened;
 ghost use mathlib.Core.Path.{_≡_};
-ghost use Prim.Native.Nat.{_+_, _<_, _≤_};
+ghost use mathlib.Core.Bool.{cond};
+ghost use mathlib.Core.List.{[], _∷_};
+ghost use Prim.Native.Nat.{ℕ, _+_, _<_, _≤_};
 ghost use lib.ListN.{length, getD, drop};
+ghost use lib.Dec.{eqb};
 ghost use Rattle.rules.specs.Bytes.{widths};
 ghost use Rattle.rules.specs.Writing as rules;
-ghost use Rattle.forms.specs.Slots.{step, operand-of, slot-width, operands, value};
-ghost use mathlib.Core.List.{[], _∷_};
+ghost use Rattle.forms.specs.Slots.{step, operands, Known};
+ghost use Rattle.forms.specs.Columns.{Ranged, Bounds};
 ghost use Rattle.text.specs.Wrote.{Wrote};
 ghost use Rattle.listing.specs.Meaning.{earned, step-at, from, Counts, Fits, Stored, outcome-of, Few, Small};
 
@@ -26,64 +31,55 @@ enum Counted {
 
 // ---- Tests
 
-// The number at a slot, whose bytes stand at `at`.
-fn number(session: &[u8], at: usize, k: Kind) -> u32
-    requires { ⌜ at + slot-width (operand-of k) ≤ length (now session) ⌝ }
-    ensures { λ r. ⌜ r ≡ value (slot-width (operand-of k)) (drop at (now (session .entry))) ⌝ }
+// A number where there is one, else 0. No branch goes by it.
+fn only_if(there: bool, v: u32) -> u32
+    ensures { λ r. ⌜ r ≡ cond there v 0 ⌝ }
 {
-    match k {
-        Kind::Save => session[at] as u32,
-        Kind::Sheet => session[at] as u32,
-        Kind::Node => session[at] as u32,
-        Kind::Content => wire::content(
-            session[at],
-            session[at + 1],
-            session[at + 2],
-            session[at + 3],
-        ),
-        Kind::Absent => 0,
-    }
-}
-
-// The refusal that the step at an offset earns, 0 where it passes.
-fn step_refusal(session: &[u8], at: usize, nodes: u64, sheets: u64) -> u8
-    requires { ⌜ at < length (now session) ⌝ }
-    ensures { λ r. ⌜ r ≡ earned nodes sheets (drop at (now (session .entry))) ⌝ }
-{
-    let s = forms::shape(session[at] as u32);
-    let j = s.0;
-    let k = s.1;
-    let l = s.2;
-    if !forms::present(j) {
-        return 2;
-    }
-    let p = 1 + forms::width(j);
-    let q = p + forms::width(k);
-    if session.len() - at < q + forms::width(l) {
-        return 3;
-    }
-    if forms::limit(j, nodes, sheets) <= number(session, at + 1, j) as u64 {
-        return 4;
-    }
-    if forms::limit(k, nodes, sheets) <= number(session, at + p, k) as u64 {
-        return 4;
-    }
-    if forms::limit(l, nodes, sheets) <= number(session, at + q, l) as u64 {
-        return 4;
+    if there {
+        return v;
     }
     0
 }
 
+// The second operand of the step of so many bytes at an offset, 0 where it has none.
+fn second(session: &[u8], at: usize, size: usize) -> u32
+    requires { ⌜ (2 ≤ size) × (at + size ≤ length (now session)) ⌝ }
+    ensures { λ r. ⌜ r ≡ cond (eqb size 2) 0 (getD (now (session .entry)) (at + 2) 0) ⌝ }
+{
+    let there = size != SHORTEST;
+    only_if(there, session[at + 1 + only_if(there, 1) as usize] as u32)
+}
+
+// The refusal that the step at an offset earns, 0 where it passes. A content passes as it is.
+fn step_refusal(session: &[u8], at: usize, l: Largest) -> u8
+    requires { ⌜ at < length (now session) ⌝ }
+    ensures { λ r. ⌜ ((n m : ℕ) → Bounds n m l → r ≡ earned n m (drop at (now (session .entry)))) ⌝ }
+{
+    let c = session[at] as u32;
+    if !forms::known(c) {
+        return 2;
+    }
+    let size = forms::size(c);
+    if session.len() - at < size {
+        return 3;
+    }
+    if forms::fits(l, c, session[at + 1] as u32, second(session, at, size)) {
+        return 0;
+    }
+    4
+}
+
 // Tests the steps from an offset on, one by one, and counts them.
 fn tested(session: &[u8], start: usize, nodes: u64, sheets: u64) -> Counted
-    requires { ⌜ start ≤ length (now session) ⌝ }
+    requires { ⌜ (start ≤ length (now session)) × Ranged nodes sheets ⌝ }
     ensures { λ r. ⌜ Counts (from nodes sheets start (now (session .entry))) r ⌝ }
     ensures few { λ r. ⌜ Few (length (now (session .entry))) r ⌝ }
 {
+    let l = forms::bounds(nodes, sheets);
     let mut at = start;
     let mut q: usize = 0;
     while at < session.len() {
-        let e = step_refusal(session, at, nodes, sheets);
+        let e = step_refusal(session, at, l);
         if 0 < e {
             return Counted::Refused(at, e);
         }
@@ -107,27 +103,25 @@ fn put_words(steps: &mut [u32], i: usize, c: u32, x: u32, y: u32, z: u32) -> usi
     i + STEP_WORDS
 }
 
-// The words of the step at an offset, which has all its bytes.
+// The words of the step at an offset, which has all its bytes. As many bytes are read as the longest has, where there are so many.
 fn put_step(steps: &mut [u32], i: usize, session: &[u8], at: usize) -> usize
-    requires { ⌜ (i + 4 ≤ length (now steps)) × (at < length (now session)) × (at + (1 + widths (operands (getD (now session) at 0))) ≤ length (now session)) ⌝ }
+    requires { ⌜ (i + 4 ≤ length (now steps)) × Known (getD (now session) at 0) × (at + (1 + widths (operands (getD (now session) at 0))) ≤ length (now session)) ⌝ }
     ensures { λ r. ⌜ Wrote (now (steps .entry)) i (rules.words (step-at (now (session .entry)) at ∷ [])) 4 r (now (steps .exit)) ⌝ }
 {
     let c = session[at] as u32;
-    let s = forms::shape(c);
-    let j = s.0;
-    let k = s.1;
-    let l = s.2;
-    let p = at + 1;
-    let q = p + forms::width(j);
-    let r = q + forms::width(k);
-    put_words(
-        steps,
-        i,
-        c,
-        number(session, p, j),
-        number(session, q, k),
-        number(session, r, l),
-    )
+    let x = session[at + 1] as u32;
+    let size = forms::size(c);
+    if session.len() - at < LONGEST {
+        return put_words(steps, i, c, x, second(session, at, size), 0);
+    }
+    let y = only_if(size != SHORTEST, session[at + 2] as u32);
+    let v = wire::content(
+        session[at + 3],
+        session[at + 4],
+        session[at + 5],
+        session[at + 6],
+    );
+    put_words(steps, i, c, x, y, only_if(size == LONGEST, v))
 }
 
 // The words of the steps from an offset on, in room for them.
@@ -138,8 +132,9 @@ fn put_steps(steps: &mut [u32], session: &[u8], start: usize) -> usize
     let mut at = start;
     let mut i: usize = 0;
     while at < session.len() {
+        let size = forms::size(session[at] as u32);
         i = put_step(steps, i, session, at);
-        at += forms::size(session[at] as u32);
+        at += size;
     }
     i
 }

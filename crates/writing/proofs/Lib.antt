@@ -1,5 +1,6 @@
 pub mod Headings
 pub mod Steps
+pub mod Ahead
 pub mod Lists
 pub mod Putting
 pub mod Passing

@@ -1,23 +1,22 @@
 -- A step's bytes, as the writer stores them.
-use Prim.Native.Nat.{ℕ, suc, _+_, _/_, _%_, _≤_, _<_}
+use Prim.Native.Nat.{ℕ, suc, _+_, _/_, _%_, _<_}
 use mathlib.Core.Path.{_≡_, refl, sym, ap, _∙_}
-use mathlib.Core.List.{List, [], _∷_, _++_, append-assoc}
+use mathlib.Core.List.{List, [], _∷_, _++_, append-nil}
 use native.Mathlib.Nat.{div-one, mod-eq-of-lt}
 use native.Mathlib.Omega.{arith}
 use lib.ListN.{length, set}
-use Rattle.rules.specs.Writing.{in-bytes, step-bytes}
-use Rattle.rules.proofs.Numbers.{in-bytes-length}
-use Rattle.forms.specs.declared.Kind.{Kind}
-use Rattle.forms.specs.declared.Kind.the-variants.{Content, Absent}
-use Rattle.forms.specs.declared.Kinds.{Kinds}
-use Rattle.forms.specs.Slots.{step, operand-of, Has, slot-width}
-use Rattle.forms.proofs.Slots.{step-bytes-by}
-use Rattle.writing.proofs.Steps.{size-by}
+use Rattle.rules.specs.Bytes.{Operand, widths}
+use Rattle.rules.specs.Writing.{operand-bytes, in-bytes, step-bytes}
+use Rattle.forms.specs.Slots.{three, step, operands, Known}
+use Rattle.forms.proofs.Slots.{number-range, step-size}
+use Rattle.forms.proofs.Shapes.{Shape, short, middle, long, shape}
 use Rattle.text.specs.Wrote.{Wrote}
-use Rattle.text.proofs.Writing.{wrote-as, wrote-then, wrote-none, wrote-length}
+use Rattle.text.proofs.Writing.{wrote-as, wrote-then}
+use Rattle.writing.specs.Ahead.{Ahead, spread}
+use Rattle.writing.proofs.Ahead.{ahead-spread}
 
 -- a number in one byte and in four
-pub one-byte : (v : ℕ) → v % 256 ∷ [] ≡ in-bytes 1 v
+one-byte : (v : ℕ) → v % 256 ∷ [] ≡ in-bytes 1 v
 unfolding in-bytes
 one-byte v = rw div-one
 
@@ -32,42 +31,46 @@ four-wrote l a v =
     let three : a + 3 ≡ suc (suc (suc a)) = omega arith in
     rw (← four-bytes v, one, two, three) (record { ends = refl; bytes = refl; short = omega arith })
 
--- ---- The number at a slot
+-- ---- A step by the shape of its operands
 
-module _ {l m : List ℕ} {a r : ℕ} (k : Kind) (v : ℕ) where
-  pub number-wrote : (o : Kind) → k ≡ o → slot-width (operand-of o) ≡ 1 → Wrote l a (v % 256 ∷ []) 1 r m → Wrote l a (in-bytes (slot-width (operand-of k)) v) 4 r m
-  number-wrote o e w p = rw (e, w) (wrote-as (one-byte v) (rw in-bytes-length (omega arith)) p)
+module _ (x y z : ℕ) where
+  -- the operands' bytes, and what is ahead of them
+  spread-by : {P : Type 0} (os : List Operand) → Shape os → ((spare : List ℕ) → x % 256 ∷ y % 256 ∷ in-bytes 4 z ≡ operand-bytes os (three x y z) ++ spare → P) → P
+  unfolding operand-bytes
+  spread-by _ (short o a) on = on (y % 256 ∷ in-bytes 4 z) (rw (a, ← one-byte x))
+  spread-by _ (middle o p a b) on = on (in-bytes 4 z) (rw (a, b, ← one-byte x, ← one-byte y))
+  spread-by _ (long o p a b) on =
+      let e = append-nil (in-bytes 4 z ++ []) ∙ append-nil (in-bytes 4 z) in
+      on [] (rw (a, b, ← one-byte x, ← one-byte y) (ap (λ (t : List ℕ). x % 256 ∷ y % 256 ∷ t) (sym e)))
 
-  pub content-wrote : k ≡ Content → Wrote l a (in-bytes 4 v) 4 r m → Wrote l a (in-bytes (slot-width (operand-of k)) v) 4 r m
-  content-wrote e p = rw e p
+  -- one byte, or two
+  one-by : (os : List Operand) → Shape os → widths os ≡ 1 → x % 256 ∷ [] ≡ operand-bytes os (three x y z)
+  unfolding operand-bytes
+  one-by _ (short o a) e = rw (a, ← one-byte x)
+  one-by _ (middle o p a b) e = absurd (omega arith)
+  one-by _ (long o p a b) e = absurd (omega arith)
 
-pub absent-wrote : (l : List ℕ) (a : ℕ) (k : Kind) (v : ℕ) → k ≡ Absent → Wrote l a (in-bytes (slot-width (operand-of k)) v) 4 a l
-unfolding in-bytes
-absent-wrote l a k v e = rw e (wrote-as refl (omega arith) (wrote-none l a))
+  two-by : (os : List Operand) → Shape os → (widths os ≡ 1 → ⊥) → widths os < 6 → x % 256 ∷ y % 256 ∷ [] ≡ operand-bytes os (three x y z)
+  unfolding operand-bytes
+  two-by _ (short o a) n l = absurd (n (omega arith))
+  two-by _ (middle o p a b) n l = rw (a, b, ← one-byte x, ← one-byte y)
+  two-by _ (long o p a b) n l = absurd (omega arith)
 
--- where a slot's number ends
-number-end : {l m : List ℕ} {a r : ℕ} (k : Kind) (v : ℕ) → Wrote l a (in-bytes (slot-width (operand-of k)) v) 4 r m → r ≡ a + slot-width (operand-of k)
-number-end k v p = p .ends ∙ rw in-bytes-length
+module _ (c x y z : ℕ) (k : Known c) where
+  number : c % 256 ≡ c
+  number = mod-eq-of-lt (omega (arith, number-range c k))
 
--- ---- A step: the command byte and the three numbers, in room for them
+  pub step-spread : {l m : List ℕ} {a e : ℕ} (r : ℕ) → r ≡ length (step-bytes (step c x y z)) → Wrote l a (spread c x y z) 7 e m → Ahead l a (step-bytes (step c x y z)) (a + r) m
+  unfolding operands
+  step-spread r q p =
+      spread-by x y z (operands c) (shape c k) (λ spare e.
+      rw q (ahead-spread (step-bytes (step c x y z)) spare (rw (number, e)) p))
 
-module _ {l l₁ : List ℕ} {a a₁ : ℕ} (c x y z : ℕ) (s : Kinds) (h : Has c s) (p₀ : Wrote l a (c % 256 ∷ []) 1 a₁ l₁) where
-  pub room-first : a + length (step-bytes (step c x y z)) ≤ length l → a₁ + slot-width (operand-of (s .0)) ≤ length l₁
-  room-first r = omega (arith, size-by c x y z s h, wrote-length p₀)
+  module _ {l l₁ l₂ : List ℕ} {a a₁ a₂ : ℕ} (p₀ : Wrote l a (c % 256 ∷ []) 1 a₁ l₁) (p₁ : Wrote l₁ a₁ (x % 256 ∷ []) 1 a₂ l₂) where
+    pub own-one : 1 + widths (operands c) ≡ 2 → Wrote l a (step-bytes (step c x y z)) 7 a₂ l₂
+    unfolding operands
+    own-one e = wrote-as (rw (number, one-by x y z (operands c) (shape c k) (omega arith))) (omega (arith, step-size c x y z)) (wrote-then p₀ p₁)
 
-  module _ {l₂ : List ℕ} {a₂ : ℕ} (p₁ : Wrote l₁ a₁ (in-bytes (slot-width (operand-of (s .0))) x) 4 a₂ l₂) where
-    pub room-second : a + length (step-bytes (step c x y z)) ≤ length l → a₂ + slot-width (operand-of (s .1)) ≤ length l₂
-    room-second r = omega (arith, size-by c x y z s h, wrote-length p₀, wrote-length p₁, number-end (s .0) x p₁)
-
-    module _ {l₃ : List ℕ} {a₃ : ℕ} (p₂ : Wrote l₂ a₂ (in-bytes (slot-width (operand-of (s .1))) y) 4 a₃ l₃) where
-      pub room-third : a + length (step-bytes (step c x y z)) ≤ length l → a₃ + slot-width (operand-of (s .2)) ≤ length l₃
-      room-third r = omega (arith, size-by c x y z s h, wrote-length p₀, wrote-length p₁, wrote-length p₂, number-end (s .0) x p₁, number-end (s .1) y p₂)
-
-      text : c < 256 → step-bytes (step c x y z) ≡ (c % 256 ∷ []) ++ in-bytes (slot-width (operand-of (s .0))) x ++ in-bytes (slot-width (operand-of (s .1))) y ++ in-bytes (slot-width (operand-of (s .2))) z
-      text small = step-bytes-by c x y z ∙ rw (← h .first, ← h .second, ← h .third, mod-eq-of-lt small) (ap (λ (t : List ℕ). c ∷ t) (sym (append-assoc (in-bytes (slot-width (operand-of (s .0))) x) (in-bytes (slot-width (operand-of (s .1))) y) (in-bytes (slot-width (operand-of (s .2))) z))))
-
-      pub step-wrote : {l₄ : List ℕ} {a₄ : ℕ} → c < 256 → Wrote l₃ a₃ (in-bytes (slot-width (operand-of (s .2))) z) 4 a₄ l₄ → Wrote l a (step-bytes (step c x y z)) 13 a₄ l₄
-      step-wrote small p₃ =
-          let all = wrote-then (wrote-then (wrote-then p₀ p₁) p₂) p₃ in
-          let e = text small in
-          wrote-as (sym e) (omega (arith, ap length e, all .short)) all
+    pub own-two : {l₃ : List ℕ} {a₃ : ℕ} → (1 + widths (operands c) ≡ 2 → ⊥) → 1 + widths (operands c) < 7 → Wrote l₂ a₂ (y % 256 ∷ []) 1 a₃ l₃ → Wrote l a (step-bytes (step c x y z)) 7 a₃ l₃
+    unfolding operands
+    own-two n h p₂ = wrote-as (rw (number, two-by x y z (operands c) (shape c k) (λ e. n (omega arith)) (omega arith))) (omega (arith, step-size c x y z)) (wrote-then (wrote-then p₀ p₁) p₂)

@@ -2,12 +2,12 @@
 use Prim.Native.Nat.{ℕ, _+_, _%_, _≤_, _<_}
 use mathlib.Core.Path.{_≡_, sym, ap, _∙_}
 use mathlib.Core.Bool.{true, false}
-use mathlib.Core.List.{List, [], _∷_, _++_}
+use mathlib.Core.List.{List, [], _∷_, _++_, append-nil}
 use mathlib.Core.Option.{some}
 use native.Mathlib.Nat.{mod-eq-of-lt}
 use native.Mathlib.Omega.{arith}
 use borrow.Author.Tests.{lt-ltb, le-ltb, lt-leb}
-use lib.ListN.{length, drop, length-append}
+use lib.ListN.{length, take, drop, length-append, length-take, drop-of-length-le}
 use Rattle.rules.specs.Writing.{at, heading-fits, steps-refusal, session-bytes, Written, bytes, write, write-into, wrote, refuse-with, Call, write-call, instructions}
 use Rattle.rules.specs.Sizes.{max-session}
 use Rattle.rules.specs.Report.{Filled}
@@ -25,11 +25,11 @@ whole-length n m o ws = omega (arith, length-append o (steps-of ws))
 -- ---- Its parts, in room for all
 
 module _ (n m : ℕ) (o ws : List ℕ) {l l₁ l₂ : List ℕ} {a₁ a₂ : ℕ} (p₀ : Wrote l 0 (n % 256 ∷ []) 1 a₁ l₁) (p₁ : Wrote l₁ a₁ (m % 256 ∷ []) 1 a₂ l₂) where
-  pub owners-room : length (session-of n m o ws) ≤ length l → a₂ + length o ≤ length l₂
+  pub owners-room : length (session-of n m o ws) ≡ length l → a₂ + length o ≤ length l₂
   owners-room r = omega (arith, wrote-length p₀, wrote-length p₁, length-append o (steps-of ws))
 
   module _ {l₃ : List ℕ} {a₃ : ℕ} (p₂ : Wrote l₂ a₂ o (length o) a₃ l₃) where
-    pub steps-room : length (session-of n m o ws) ≤ length l → a₃ + length (steps-of ws) ≤ length l₃
+    pub steps-room : length (session-of n m o ws) ≡ length l → a₃ + length (steps-of ws) ≡ length l₃
     steps-room r = omega (arith, wrote-length p₀, wrote-length p₁, wrote-length p₂, length-append o (steps-of ws))
 
     pub whole-wrote : {l₄ : List ℕ} {a₄ : ℕ} → n < 256 → m < 256 → Wrote l₃ a₃ (steps-of ws) (length (steps-of ws)) a₄ l₄ → Wrote l 0 (session-of n m o ws) (length (session-of n m o ws)) a₄ l₄
@@ -82,16 +82,27 @@ module _ (n m : ℕ) (o ws room : List ℕ) where
             let short : length room < length (session-of n m o ws) = omega (arith, size-of h) in
             sym (into ∙ rw (lt-ltb (length room) (length (session-of n m o ws)) short) (ap (λ (x : ℕ). record { outcome = refuse-with (at x 15); room = room }) (size-of h)))
 
-        pub fits-room : 2 + m + t ≤ length room → length (session-of n m o ws) ≤ length room
-        fits-room l = omega (arith, size-of h)
+        -- the part of the room that the session takes
+        module _ (l : 2 + m + t ≤ length room) where
+          abbrev part : List ℕ
+          part = take (2 + m + t) room
 
-        pub written : {k : List ℕ} {u : ℕ} → 2 + m + t ≤ length room → Wrote room 0 (session-of n m o ws) (length (session-of n m o ws)) u k → answers (record { outcome = wrote u; room = k })
-        written {k} {u} l w =
-            let e = wrote-front w (omega (arith, whole-length n m o ws, size-of h)) in
-            let size : u ≡ length (session-of n m o ws) = ap (λ (x : Filled). x .size) e in
-            let text : k ≡ session-of n m o ws ++ drop (length (session-of n m o ws)) room = ap (λ (x : Filled). x .buffer) e in
-            let long : length (session-of n m o ws) ≤ length room = fits-room l in
-            sym (into ∙ rw (le-ltb (length room) (length (session-of n m o ws)) long) (λ i. record { outcome = wrote (sym size i); room = sym text i }))
+          pub part-size : 2 + m + t ≡ length part
+          part-size = rw length-take (omega arith)
 
-        pub written-small : {k : List ℕ} {u : ℕ} → Wrote room 0 (session-of n m o ws) (length (session-of n m o ws)) u k → u ≤ max-session
-        written-small w = omega (arith, w .ends, size-of h)
+          pub part-fits : length (session-of n m o ws) ≡ length part
+          part-fits = size-of h ∙ part-size
+
+          pub written : {k : List ℕ} {u : ℕ} → Wrote part 0 (session-of n m o ws) (length (session-of n m o ws)) u k → answers (record { outcome = wrote u; room = k ++ drop (2 + m + t) room })
+          written {k} {u} w =
+              let e = wrote-front w (omega (arith, part-fits)) in
+              let size : u ≡ length (session-of n m o ws) = ap (λ (x : Filled). x .size) e in
+              let filled : length part ≤ length (session-of n m o ws) = omega (arith, part-fits) in
+              let all : drop (length (session-of n m o ws)) part ≡ [] = drop-of-length-le part filled in
+              let text : k ≡ session-of n m o ws = ap (λ (x : Filled). x .buffer) e ∙ rw all (append-nil (session-of n m o ws)) in
+              let rest : k ++ drop (2 + m + t) room ≡ session-of n m o ws ++ drop (length (session-of n m o ws)) room = rw (← size-of h) (ap (λ (x : List ℕ). x ++ drop (length (session-of n m o ws)) room) text) in
+              let long : length (session-of n m o ws) ≤ length room = omega (arith, size-of h) in
+              sym (into ∙ rw (le-ltb (length room) (length (session-of n m o ws)) long) (λ i. record { outcome = wrote (sym size i); room = sym rest i }))
+
+          pub written-small : {k : List ℕ} {u : ℕ} → Wrote part 0 (session-of n m o ws) (length (session-of n m o ws)) u k → u ≤ max-session
+          written-small w = omega (arith, w .ends, size-of h)

@@ -1,12 +1,13 @@
 -- What the writer's types and numbers mean in the rules.
-use Prim.Native.Nat.{ℕ, suc, min, _≤_}
+use Prim.Native.Nat.{ℕ, suc, _+_, min, _≤_}
 use mathlib.Core.Path.{_≡_}
 use mathlib.Core.List.{List}
 use mathlib.Core.Option.{none, some}
-use lib.ListN.{length}
+use lib.ListN.{length, getD}
 use Rattle.rules.specs.Sizes.{max-session}
 use Rattle.rules.specs.Steps.{Checked, pass, refuse}
 use Rattle.rules.specs.Writing as rules
+use Rattle.forms.specs.Slots.{step}
 use Rattle.writing.specs.declared.Written.{Written}
 use Rattle.writing.specs.declared.Written.the-variants as written
 use Rattle.writing.specs.declared.Sized.{Sized}
@@ -28,6 +29,10 @@ too-many = suc max-session
 abbrev pub Sizes : (nodes sheets : ℕ) → List rules.Instruction → Sized → Type 0
 Sizes n m is (Steps q t) = (rules.steps-refusal n m 0 is ≡ none) × ((q ≡ length is) × (t ≡ min (length (rules.steps-bytes is)) too-many))
 Sizes n m is (Refused p e) = rules.steps-refusal n m 0 is ≡ some (rules.at p e)
+
+-- the step at word i
+abbrev pub step-in : List ℕ → ℕ → rules.Instruction
+step-in ws i = step (getD ws i 0) (getD ws (i + 1) 0) (getD ws (i + 2) 0) (getD ws (i + 3) 0)
 
 -- the bytes of steps in words
 abbrev pub steps-of : List ℕ → List ℕ

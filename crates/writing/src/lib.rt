@@ -1,5 +1,7 @@
 // Writing a session: a header and a list of steps, in words, as bytes. First everything is tested, then written.
-use forms::Kind;
+use forms::LONGEST;
+use forms::Largest;
+use forms::SHORTEST;
 use forms::STEP_WORDS;
 use limits::MAX_NODES;
 use limits::MAX_SESSION;
@@ -7,14 +9,16 @@ use limits::MAX_SHEETS;
 ghost use mathlib.Core.Path.{_≡_};
 ghost use mathlib.Core.List.{List, [], _∷_};
 ghost use Prim.Native.Nat.{ℕ, _+_, _<_, _≤_, min};
-ghost use lib.ListN.{length};
+ghost use lib.ListN.{length, getD};
 ghost use lib.Dec.{ltb};
 ghost use Rattle.rules.specs.Table.{all};
-ghost use Rattle.rules.specs.Bytes.{byte};
+ghost use Rattle.rules.specs.Bytes.{byte, widths};
 ghost use Rattle.rules.specs.Writing as rules;
-ghost use Rattle.forms.specs.Slots.{step, operand-of, slot-width};
+ghost use Rattle.forms.specs.Slots.{step, operands, Known};
+ghost use Rattle.forms.specs.Columns.{Ranged, Bounds};
 ghost use Rattle.text.specs.Wrote.{Wrote};
-ghost use Rattle.writing.specs.Meaning.{heading-of, number-of, Sizes, steps-of, session-of, Passes, outcome-of, too-many, Small};
+ghost use Rattle.writing.specs.Meaning.{heading-of, number-of, Sizes, step-in, steps-of, session-of, Passes, outcome-of, too-many, Small};
+ghost use Rattle.writing.specs.Ahead.{Ahead, spread};
 
 // How many bytes were written, or a refusal with its place.
 pub enum Written {
@@ -67,23 +71,16 @@ fn heading_fits(nodes: usize, sheets: usize, owners: &[u8]) -> bool
 }
 
 // The refusal that a step earns, 0 where it passes.
-fn step_refusal(nodes: u64, sheets: u64, c: u32, x: u32, y: u32, z: u32) -> u8
-    ensures { λ r. ⌜ r ≡ number-of (rules.check-step nodes sheets (step c x y z)) ⌝ }
+fn step_refusal(l: Largest, c: u32, x: u32, y: u32, z: u32) -> u8
+    ensures { λ r. ⌜ ((n m : ℕ) → Bounds n m l → r ≡ number-of (rules.check-step n m (step c x y z))) ⌝ }
 {
-    let s = forms::shape(c);
-    let j = s.0;
-    let k = s.1;
-    let l = s.2;
-    if !forms::present(j) {
+    if !forms::known(c) {
         return 2;
     }
-    if forms::limit(j, nodes, sheets) <= x as u64 {
+    if !forms::fits(l, c, x, y) {
         return 4;
     }
-    if forms::limit(k, nodes, sheets) <= y as u64 {
-        return 4;
-    }
-    if forms::limit(l, nodes, sheets) <= z as u64 {
+    if forms::largest_third(c) < z {
         return 4;
     }
     0
@@ -93,9 +90,7 @@ fn step_refusal(nodes: u64, sheets: u64, c: u32, x: u32, y: u32, z: u32) -> u8
 fn cut_refusal(c: u32) -> u8
     ensures { λ r. ⌜ ((n m : ℕ) (vs : List ℕ) → length vs < 3 → r ≡ number-of (rules.check-step n m (record { number = c; operands = vs }))) ⌝ }
 {
-    let s = forms::shape(c);
-    let j = s.0;
-    if forms::present(j) {
+    if forms::known(c) {
         return 4;
     }
     2
@@ -113,25 +108,27 @@ fn capped(n: usize) -> usize
 
 // Tests the steps one by one and counts their bytes.
 fn tested(nodes: u64, sheets: u64, steps: &[u32]) -> Sized
+    requires { ⌜ Ranged nodes sheets ⌝ }
     ensures { λ r. ⌜ Sizes nodes sheets (rules.instructions (now (steps .entry))) r ⌝ }
 {
+    let l = forms::bounds(nodes, sheets);
     let mut i: usize = 0;
     let mut q: usize = 0;
     let mut t: usize = 0;
     while STEP_WORDS <= steps.len() - i {
         let c = steps[i];
-        let e = step_refusal(nodes, sheets, c, steps[i + 1], steps[i + 2], steps[i + 3]);
+        let e = step_refusal(l, c, steps[i + 1], steps[i + 2], steps[i + 3]);
         if 0 < e {
             return Sized::Refused(q, e);
         }
-        t = capped(t + forms::size(c));
+        t += forms::size(c);
         i += STEP_WORDS;
         q += 1;
     }
     if i < steps.len() {
         return Sized::Refused(q, cut_refusal(steps[i]));
     }
-    Sized::Steps(q, t)
+    Sized::Steps(q, capped(t))
 }
 
 // ---- Bytes
@@ -157,33 +154,43 @@ fn put_content(buf: &mut [u8], at: usize, v: u32) -> usize
     at + 4
 }
 
-// The number at a slot, in as many bytes as its operand has.
-fn put_number(buf: &mut [u8], at: usize, k: Kind, v: u32) -> usize
-    requires { ⌜ at + slot-width (operand-of k) ≤ length (now buf) ⌝ }
-    ensures { λ r. ⌜ Wrote (now (buf .entry)) at (rules.in-bytes (slot-width (operand-of k)) v) 4 r (now (buf .exit)) ⌝ }
+// A step in as many bytes as the longest has.
+fn put_longest(buf: &mut [u8], at: usize, c: u32, x: u32, y: u32, z: u32) -> usize
+    requires { ⌜ at + 7 ≤ length (now buf) ⌝ }
+    ensures { λ r. ⌜ Wrote (now (buf .entry)) at (spread c x y z) 7 r (now (buf .exit)) ⌝ }
 {
-    match k {
-        Kind::Save => put(buf, at, (v % 256) as u8),
-        Kind::Sheet => put(buf, at, (v % 256) as u8),
-        Kind::Node => put(buf, at, (v % 256) as u8),
-        Kind::Content => put_content(buf, at, v),
-        Kind::Absent => at,
-    }
+    let e = put(buf, at, (c % 256) as u8);
+    let f = put(buf, e, (x % 256) as u8);
+    let g = put(buf, f, (y % 256) as u8);
+    put_content(buf, g, z)
 }
 
-// A step.
-fn put_step(buf: &mut [u8], at: usize, c: u32, x: u32, y: u32, z: u32) -> usize
-    requires { ⌜ (c < 256) × (at + length (rules.step-bytes (step c x y z)) ≤ length (now buf)) ⌝ }
-    ensures { λ r. ⌜ Wrote (now (buf .entry)) at (rules.step-bytes (step c x y z)) 13 r (now (buf .exit)) ⌝ }
+// A step without a content, in its own bytes.
+fn put_own(buf: &mut [u8], at: usize, c: u32, x: u32, y: u32) -> usize
+    requires { ⌜ Known c × (1 + widths (operands c) < 7) × (at + (1 + widths (operands c)) ≤ length (now buf)) ⌝ }
+    ensures { λ r. ⌜ ((z : ℕ) → Wrote (now (buf .entry)) at (rules.step-bytes (step c x y z)) 7 r (now (buf .exit))) ⌝ }
 {
-    let s = forms::shape(c);
-    let j = s.0;
-    let k = s.1;
-    let l = s.2;
     let e = put(buf, at, (c % 256) as u8);
-    let f = put_number(buf, e, j, x);
-    let g = put_number(buf, f, k, y);
-    put_number(buf, g, l, z)
+    let f = put(buf, e, (x % 256) as u8);
+    if forms::size(c) == SHORTEST {
+        return f;
+    }
+    put(buf, f, (y % 256) as u8)
+}
+
+// A step in a buffer that ends with the session: the bytes behind it are written over by the next. Near the end there is no room for them.
+fn put_step(buf: &mut [u8], at: usize, steps: &[u32], i: usize) -> usize
+    requires { ⌜ (i + 4 ≤ length (now steps)) × Known (getD (now steps) i 0) × (at + length (rules.step-bytes (step-in (now steps) i)) ≤ length (now buf)) ⌝ }
+    ensures { λ r. ⌜ Ahead (now (buf .entry)) at (rules.step-bytes (step-in (now (steps .entry)) i)) r (now (buf .exit)) ⌝ }
+{
+    let c = steps[i];
+    let x = steps[i + 1];
+    let y = steps[i + 2];
+    if LONGEST <= buf.len() - at {
+        put_longest(buf, at, c, x, y, steps[i + 3]);
+        return at + forms::size(c);
+    }
+    put_own(buf, at, c, x, y)
 }
 
 // Owners, a byte each.
@@ -200,21 +207,21 @@ fn put_owners(buf: &mut [u8], at: usize, owners: &[u8]) -> usize
     e
 }
 
-// Steps that pass.
+// Steps that pass, to the end of the buffer.
 fn put_steps(buf: &mut [u8], at: usize, steps: &[u32]) -> usize
-    requires { ⌜ Passes (now steps) × (at + length (steps-of (now steps)) ≤ length (now buf)) ⌝ }
+    requires { ⌜ Passes (now steps) × (at + length (steps-of (now steps)) ≡ length (now buf)) ⌝ }
     ensures { λ r. ⌜ Wrote (now (buf .entry)) at (steps-of (now (steps .entry))) (length (steps-of (now (steps .entry)))) r (now (buf .exit)) ⌝ }
 {
     let mut e = at;
     let mut i: usize = 0;
     while STEP_WORDS <= steps.len() - i {
-        e = put_step(buf, e, steps[i], steps[i + 1], steps[i + 2], steps[i + 3]);
+        e = put_step(buf, e, steps, i);
         i += STEP_WORDS;
     }
     e
 }
 
-// A session, in room for it.
+// A session, in a buffer of its size.
 fn put_session(
     session: &mut [u8],
     nodes: usize,
@@ -222,7 +229,7 @@ fn put_session(
     owners: &[u8],
     steps: &[u32],
 ) -> usize
-    requires { ⌜ (nodes < 256) × (sheets < 256) × Passes (now steps) × (length (session-of nodes sheets (now owners) (now steps)) ≤ length (now session)) ⌝ }
+    requires { ⌜ (nodes < 256) × (sheets < 256) × Passes (now steps) × (length (session-of nodes sheets (now owners) (now steps)) ≡ length (now session)) ⌝ }
     ensures { λ r. ⌜
         Wrote (now (session .entry)) 0 (session-of nodes sheets (now (owners .entry)) (now (steps .entry)))
         (length (session-of nodes sheets (now (owners .entry)) (now (steps .entry)))) r (now (session .exit))
@@ -264,7 +271,7 @@ pub fn write(
             if session.len() < size {
                 return Written::Refused(size, 15);
             }
-            Written::Bytes(put_session(session, nodes, sheets, owners, steps))
+            Written::Bytes(put_session(&mut session[..size], nodes, sheets, owners, steps))
         }
     }
 }

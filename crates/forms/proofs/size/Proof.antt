@@ -1,51 +1,15 @@
--- The command byte and what stands at the three slots.
-use native.Mathlib.Omega.{arith}
-use Rattle.forms.proofs.Slots.{has-widths}
+-- The column of sizes.
+use mathlib.Core.Path.{_∙_}
+use Rattle.forms.proofs.Columns.{size-column}
 use borrow.Author.Needs.{needs}
 use Rattle.forms.proofs.size.Statement.{statement}
 use Rattle.forms.proofs.size.Tie as tie
 
-shape-requires : tie.Need-shape-requires
-shape-requires c κs = search needs
-
-width-requires : tie.Need-width-requires
-width-requires c κs = search needs
-
-width-requires-2 : tie.Need-width-requires-2
-width-requires-2 c κs = search needs
-
-width-requires-3 : tie.Need-width-requires-3
-width-requires-3 c κs = search needs
-
-add-result : tie.Need-add-result
-add-result c =
-    let s = has-widths (c .before .before .before .shape .ensures) in
-    omega arith
-
-add-result-2 : tie.Need-add-result-2
-add-result-2 c =
-    let s = has-widths (c .before .before .before .shape .ensures) in
-    omega arith
-
-add-result-3 : tie.Need-add-result-3
-add-result-3 c =
-    let s = has-widths (c .before .before .before .shape .ensures) in
-    omega arith
+byte-of-requires : tie.Need-byte-of-requires
+byte-of-requires c κs = search needs
 
 returns : tie.Need-returns
-returns c =
-    let s = has-widths (c .before .before .before .shape .ensures) in
-    omega arith
+returns c = c .byte-of .ensures ∙ size-column (c .before .args .c) (c .before .pre)
 
 pub size-spec : {M : Type 1} → statement M
-size-spec =
-    tie.close
-    (tie.spec
-    shape-requires
-    width-requires
-    width-requires-2
-    width-requires-3
-    add-result
-    add-result-2
-    add-result-3
-    returns)
+size-spec = tie.close (tie.spec byte-of-requires returns)

@@ -2,7 +2,7 @@
 use mathlib.Core.Path.{sym, _∙_}
 use native.Mathlib.Omega.{arith}
 use Rattle.wire.proofs.Opening.{opening, header-within, unopened}
-use Rattle.listing.proofs.Whole.{header-refused, step-refused, no-room, fits, stored, few-steps}
+use Rattle.listing.proofs.Whole.{header-refused, step-refused, no-room, fits, stored, few-steps, counts-fit}
 use borrow.Author.Needs.{needs}
 use Rattle.listing.proofs.read.Statement.{statement}
 use Rattle.listing.proofs.read.Tie as tie
@@ -31,7 +31,7 @@ cast-tested-2 c = search needs
 tested-requires : tie.Need-tested-requires
 tested-requires c κs =
     let o = (opening _ _ _ (sym (c .before .header .given .1) ∙ c .before .before .before .read-header .ensures)) in
-    omega (arith, header-within o)
+    (header-within o, counts-fit _ _ _ o)
 
 enum-known-c : tie.Need-enum-known-c
 enum-known-c c = search needs

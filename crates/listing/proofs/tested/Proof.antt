@@ -3,25 +3,28 @@ use Prim.Native.Nat.{ℕ, _-_}
 use mathlib.Core.Path.{_≡_, _∙_}
 use native.Mathlib.Omega.{arith}
 use lib.ListN.{length}
-use Rattle.listing.proofs.Lists.{Passed, passed-none, passed-next, passed-refused, passed-all, passed-few, next-fits}
+use Rattle.listing.proofs.Lists.{Passed, passed-none, passed-next, passed-refused, passed-all, passed-few, next-known, next-fits}
 use borrow.Author.Needs.{needs}
 use Rattle.listing.proofs.tested.Statement.{statement}
 use Rattle.listing.proofs.tested.Tie as tie
 
 abbrev Inv-loop : tie.InvT-loop
-Inv-loop session start nodes sheets at₀ q₀ at q = Passed nodes sheets session start at q
+Inv-loop session start nodes sheets l at₀ q₀ at q = Passed nodes sheets session start at q
 
 abbrev μ-loop : tie.MeasureT-loop
-μ-loop session start nodes sheets at₀ q₀ at q = length session - at
+μ-loop session start nodes sheets l at₀ q₀ at q = length session - at
+
+bounds-requires : tie.Need-bounds-requires Inv-loop μ-loop
+bounds-requires c κs = search needs
 
 loop-holds : tie.Need-loop-holds Inv-loop μ-loop
-loop-holds c = passed-none _ _ _ _ (c .before .pre)
+loop-holds c = passed-none _ _ _ _ (c .before .before .pre .0)
 
 step-refusal-requires : tie.Need-step-refusal-requires Inv-loop μ-loop
 step-refusal-requires c κs = search needs
 
 returns : tie.Need-returns Inv-loop μ-loop
-returns c = (passed-refused (c .before .before .before .loop .inv) (c .before .before .loop-test .taken) _ (c .before .step-refusal .ensures) (c .if1 .taken), tt)
+returns c = (passed-refused (c .before .before .before .loop .inv) (c .before .before .loop-test .taken) _ (c .before .step-refusal .ensures _ _ (c .before .before .before .before .bounds .ensures)) (c .if1 .taken), tt)
 
 shared-slice-read-size : tie.Need-shared-slice-read-size Inv-loop μ-loop
 shared-slice-read-size c = search needs
@@ -30,12 +33,14 @@ cast-size : tie.Need-cast-size Inv-loop μ-loop
 cast-size c = omega (arith, c .shared-slice-known2 .given (c .before .before .before .before .loop .at))
 
 size-requires : tie.Need-size-requires Inv-loop μ-loop
-size-requires c κs = search needs
+size-requires c κs =
+    let z : _≡_ {A = ℕ} 0 (c .before .before .step-refusal .result) = omega arith in
+    next-known _ _ _ _ (c .before .before .before .loop-test .taken) (z ∙ c .before .before .step-refusal .ensures _ _ (c .before .before .before .before .before .bounds .ensures))
 
 add-at : tie.Need-add-at Inv-loop μ-loop
 add-at c =
     let z : _≡_ {A = ℕ} 0 (c .before .before .before .step-refusal .result) = omega arith in
-    let n = next-fits _ _ _ _ (c .before .before .before .before .loop-test .taken) (z ∙ c .before .before .before .step-refusal .ensures) in
+    let n = next-fits _ _ _ _ (c .before .before .before .before .loop-test .taken) (z ∙ c .before .before .before .step-refusal .ensures _ _ (c .before .before .before .before .before .before .bounds .ensures)) in
     omega (arith, c .size .ensures)
 
 add-q : tie.Need-add-q Inv-loop μ-loop
@@ -49,7 +54,7 @@ loop-less c = omega (arith, c .size .ensures)
 loop-again : tie.Need-loop-again Inv-loop μ-loop
 loop-again c =
     let z : _≡_ {A = ℕ} 0 (c .before .before .before .step-refusal .result) = omega arith in
-    passed-next (c .before .before .before .before .before .loop .inv) (c .before .before .before .before .loop-test .taken) _ (z ∙ c .before .before .before .step-refusal .ensures) (c .size .ensures)
+    passed-next (c .before .before .before .before .before .loop .inv) (c .before .before .before .before .loop-test .taken) _ (z ∙ c .before .before .before .step-refusal .ensures _ _ (c .before .before .before .before .before .before .bounds .ensures)) (c .size .ensures)
 
 returns-2 : tie.Need-returns-2 Inv-loop μ-loop
 returns-2 c = (passed-all (c .before .loop .inv) (omega arith), passed-few (c .before .loop .inv))
@@ -60,6 +65,7 @@ tested-spec =
     (tie.spec
     Inv-loop
     μ-loop
+    bounds-requires
     loop-holds
     step-refusal-requires
     returns

@@ -5,17 +5,14 @@ use borrow.Author.Needs.{needs}
 use Rattle.writing.proofs.cut_refusal.Statement.{statement}
 use Rattle.writing.proofs.cut_refusal.Tie as tie
 
-shape-requires : tie.Need-shape-requires
-shape-requires c κs = search needs
-
-present-requires : tie.Need-present-requires
-present-requires c κs = search needs
+known-requires : tie.Need-known-requires
+known-requires c κs = search needs
 
 returns : tie.Need-returns
-returns c n m vs l = cut-known n m _ vs _ (c .before .before .shape .ensures) (sym (c .before .present .ensures) ∙ c .if1 .taken) l
+returns c n m vs l = cut-known n m _ vs (sym (c .before .known .ensures) ∙ c .if1 .taken) l
 
 returns-2 : tie.Need-returns-2
-returns-2 c n m vs l = cut-unknown n m _ vs _ (c .before .before .shape .ensures) (sym (c .before .present .ensures) ∙ c .if1 .left)
+returns-2 c n m vs l = cut-unknown n m _ vs (sym (c .before .known .ensures) ∙ c .if1 .left)
 
 pub cut-refusal-spec : {M : Type 1} → statement M
-cut-refusal-spec = tie.close (tie.spec shape-requires present-requires returns returns-2)
+cut-refusal-spec = tie.close (tie.spec known-requires returns returns-2)

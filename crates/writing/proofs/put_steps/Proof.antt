@@ -2,7 +2,7 @@
 use Prim.Native.Nat.{_-_}
 use native.Mathlib.Omega.{arith}
 use lib.ListN.{length}
-use Rattle.writing.proofs.Passing.{Put, put-none, put-next, put-all, put-length, here-small, here-room}
+use Rattle.writing.proofs.Passing.{Put, put-none, put-next, put-all, put-length, here-known, here-room}
 use borrow.Author.Needs.{needs}
 use Rattle.writing.proofs.put_steps.Statement.{statement}
 use Rattle.writing.proofs.put_steps.Tie as tie
@@ -19,43 +19,10 @@ loop-holds c = put-none _ _ _ (c .before .before .pre .0)
 sub-loop : tie.Need-sub-loop Inv-loop μ-loop
 sub-loop c = search needs
 
-mul-put-step : tie.Need-mul-put-step Inv-loop μ-loop
-mul-put-step c = search needs
-
-shared-slice-read-put-step : tie.Need-shared-slice-read-put-step Inv-loop μ-loop
-shared-slice-read-put-step c = search needs
-
-add-put-step : tie.Need-add-put-step Inv-loop μ-loop
-add-put-step c = search needs
-
-mul-put-step-2 : tie.Need-mul-put-step-2 Inv-loop μ-loop
-mul-put-step-2 c = search needs
-
-shared-slice-read-put-step-2 : tie.Need-shared-slice-read-put-step-2 Inv-loop μ-loop
-shared-slice-read-put-step-2 c = search needs
-
-add-put-step-2 : tie.Need-add-put-step-2 Inv-loop μ-loop
-add-put-step-2 c = search needs
-
-mul-put-step-3 : tie.Need-mul-put-step-3 Inv-loop μ-loop
-mul-put-step-3 c = search needs
-
-shared-slice-read-put-step-3 : tie.Need-shared-slice-read-put-step-3 Inv-loop μ-loop
-shared-slice-read-put-step-3 c = search needs
-
-add-put-step-3 : tie.Need-add-put-step-3 Inv-loop μ-loop
-add-put-step-3 c = search needs
-
-mul-put-step-4 : tie.Need-mul-put-step-4 Inv-loop μ-loop
-mul-put-step-4 c = search needs
-
-shared-slice-read-put-step-4 : tie.Need-shared-slice-read-put-step-4 Inv-loop μ-loop
-shared-slice-read-put-step-4 c = search needs
-
 put-step-requires : tie.Need-put-step-requires Inv-loop μ-loop
 put-step-requires c κs =
-    let p = c .before .before .before .before .before .before .loop .inv in
-    (here-small p (omega arith), here-room p (omega arith) (c .before .before .before .before .before .before .before .before .before .pre .1))
+    let p = c .before .before .loop .inv in
+    (omega arith, here-known p (omega arith), here-room p (omega arith) (c .before .before .before .before .before .pre .1))
 
 add-i : tie.Need-add-i Inv-loop μ-loop
 add-i c = search needs
@@ -64,13 +31,13 @@ loop-less : tie.Need-loop-less Inv-loop μ-loop
 loop-less c = search needs
 
 loop-again : tie.Need-loop-again Inv-loop μ-loop
-loop-again c = put-next (c .before .before .before .before .before .before .before .before .before .loop .inv) (omega arith) (c .before .before .put-step .ensures)
+loop-again c = put-next (c .before .before .before .before .before .loop .inv) (omega arith) (c .before .before .put-step .ensures)
 
 same-length : tie.Need-same-length Inv-loop μ-loop
 same-length c = put-length (c .before .loop .inv)
 
 returns : tie.Need-returns Inv-loop μ-loop
-returns c = put-all (c .before .loop .inv) (omega arith)
+returns c = put-all (c .before .loop .inv) (omega arith) (c .before .before .before .before .pre .1)
 
 pub put-steps-spec : {M : Type 1} → statement M
 put-steps-spec =
@@ -80,17 +47,6 @@ put-steps-spec =
     μ-loop
     loop-holds
     sub-loop
-    mul-put-step
-    shared-slice-read-put-step
-    add-put-step
-    mul-put-step-2
-    shared-slice-read-put-step-2
-    add-put-step-2
-    mul-put-step-3
-    shared-slice-read-put-step-3
-    add-put-step-3
-    mul-put-step-4
-    shared-slice-read-put-step-4
     put-step-requires
     add-i
     loop-less

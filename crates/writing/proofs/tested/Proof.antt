@@ -2,18 +2,21 @@
 use Prim.Native.Nat.{ℕ, _-_}
 use mathlib.Core.Path.{_≡_, _∙_}
 use native.Mathlib.Omega.{arith}
-use lib.ListN.{length, getD}
-use Rattle.forms.proofs.Slots.{size-small}
-use Rattle.writing.proofs.Lists.{Passed, passed-none, passed-next, passed-refused, passed-cut, passed-all}
+use lib.ListN.{length}
+use Rattle.forms.proofs.Shapes.{size-small}
+use Rattle.writing.proofs.Lists.{Passed, passed-none, pass-known, passed-next, passed-refused, passed-cut, passed-all}
 use borrow.Author.Needs.{needs}
 use Rattle.writing.proofs.tested.Statement.{statement}
 use Rattle.writing.proofs.tested.Tie as tie
 
 abbrev Inv-loop : tie.InvT-loop
-Inv-loop nodes sheets steps i₀ q₀ t₀ i q t = Passed nodes sheets steps i q t
+Inv-loop nodes sheets steps l i₀ q₀ t₀ i q t = Passed nodes sheets steps i q t
 
 abbrev μ-loop : tie.MeasureT-loop
-μ-loop nodes sheets steps i₀ q₀ t₀ i q t = length steps - i
+μ-loop nodes sheets steps l i₀ q₀ t₀ i q t = length steps - i
+
+bounds-requires : tie.Need-bounds-requires Inv-loop μ-loop
+bounds-requires c κs = search needs
 
 loop-holds : tie.Need-loop-holds Inv-loop μ-loop
 loop-holds c = passed-none _ _ _
@@ -58,18 +61,19 @@ step-refusal-requires : tie.Need-step-refusal-requires Inv-loop μ-loop
 step-refusal-requires c κs = search needs
 
 returns : tie.Need-returns Inv-loop μ-loop
-returns c = passed-refused (c .before .before .before .before .before .before .before .loop .inv) (omega arith) _ (c .before .step-refusal .ensures) (c .if1 .taken)
+returns c = passed-refused (c .before .before .before .before .before .before .before .loop .inv) (omega arith) _ (c .before .step-refusal .ensures _ _ (c .before .before .before .before .before .before .before .before .bounds .ensures)) (c .if1 .taken)
 
 size-requires : tie.Need-size-requires Inv-loop μ-loop
-size-requires c κs = search needs
+size-requires c κs =
+    let z : _≡_ {A = ℕ} 0 (c .before .step-refusal .result) = omega arith in
+    pass-known (c .before .before .before .before .before .before .before .loop .inv) (omega arith) (z ∙ c .before .step-refusal .ensures _ _ (c .before .before .before .before .before .before .before .before .bounds .ensures))
 
-add-capped : tie.Need-add-capped Inv-loop μ-loop
-add-capped c =
-    let l = c .before .before .before .before .before .before .before .before .loop in
-    omega (arith, c .size .ensures, size-small (getD (c .before .before .before .before .before .before .before .before .before .before .args .steps .now) (l .i) 0))
-
-capped-requires : tie.Need-capped-requires Inv-loop μ-loop
-capped-requires c κs = search needs
+add-t : tie.Need-add-t Inv-loop μ-loop
+add-t c =
+    let z : _≡_ {A = ℕ} 0 (c .before .before .step-refusal .result) = omega arith in
+    let p = c .before .before .before .before .before .before .before .before .loop .inv in
+    let k = pass-known p (omega arith) (z ∙ c .before .before .step-refusal .ensures _ _ (c .before .before .before .before .before .before .before .before .before .bounds .ensures)) in
+    omega (arith, c .size .ensures, p .small, p .few, size-small _ k)
 
 add-i : tie.Need-add-i Inv-loop μ-loop
 add-i c = search needs
@@ -82,8 +86,8 @@ loop-less c = search needs
 
 loop-again : tie.Need-loop-again Inv-loop μ-loop
 loop-again c =
-    let z : _≡_ {A = ℕ} 0 (c .before .before .before .step-refusal .result) = omega arith in
-    passed-next (c .before .before .before .before .before .before .before .before .before .loop .inv) (omega arith) _ _ (z ∙ c .before .before .before .step-refusal .ensures) (c .before .size .ensures) (c .capped .ensures)
+    let z : _≡_ {A = ℕ} 0 (c .before .before .step-refusal .result) = omega arith in
+    passed-next (c .before .before .before .before .before .before .before .before .loop .inv) (omega arith) _ (z ∙ c .before .before .step-refusal .ensures _ _ (c .before .before .before .before .before .before .before .before .before .bounds .ensures)) (c .size .ensures)
 
 mul-cut-refusal : tie.Need-mul-cut-refusal Inv-loop μ-loop
 mul-cut-refusal c = search needs
@@ -97,8 +101,11 @@ cut-refusal-requires c κs = search needs
 returns-2 : tie.Need-returns-2 Inv-loop μ-loop
 returns-2 c = passed-cut (c .before .before .before .before .loop .inv) _ (c .cut-refusal .ensures) (c .before .before .if2 .taken) (omega arith)
 
+capped-requires : tie.Need-capped-requires Inv-loop μ-loop
+capped-requires c κs = search needs
+
 returns-3 : tie.Need-returns-3 Inv-loop μ-loop
-returns-3 c = passed-all (c .before .before .loop .inv) (omega arith)
+returns-3 c = passed-all (c .before .before .before .loop .inv) (omega arith) _ (c .capped .ensures)
 
 pub tested-spec : {M : Type 1} → statement M
 tested-spec =
@@ -106,6 +113,7 @@ tested-spec =
     (tie.spec
     Inv-loop
     μ-loop
+    bounds-requires
     loop-holds
     sub-loop
     mul-c
@@ -122,8 +130,7 @@ tested-spec =
     step-refusal-requires
     returns
     size-requires
-    add-capped
-    capped-requires
+    add-t
     add-i
     add-q
     loop-less
@@ -132,4 +139,5 @@ tested-spec =
     shared-slice-read-cut-refusal
     cut-refusal-requires
     returns-2
+    capped-requires
     returns-3)
