@@ -242,6 +242,37 @@ static void answers_and_states(int turns)
     }
 }
 
+/* A session from a file. */
+static void load(struct session *s, const char *path)
+{
+    FILE *file = fopen(path, "rb");
+    const char *slash = strrchr(path, '/');
+    if (!file) {
+        perror(path);
+        exit(1);
+    }
+    s->name = slash ? slash + 1 : path;
+    s->length = fread(s->bytes, 1, sizeof s->bytes, file);
+    s->commands = CUSPHEWA_VALUE(plain_answers(s->bytes, s->length, answers, CUSPHEWA_MOST_ANSWERS));
+    fclose(file);
+}
+
+/* The slowest sessions known: one made here, and those in files that a search has found. */
+static void slowest(int turns, char **paths, int count)
+{
+    static struct session s;
+    printf("\n");
+    title("slowest known");
+    for (int i = -1; i < count; i++) {
+        if (i < 0)
+            make_all_written(&s);
+        else
+            load(&s, paths[i]);
+        check(&s);
+        line(s.name, cusphewa_reports, plain_reports, &s, turns);
+    }
+}
+
 int main(int count, char **arguments)
 {
     int turns = count > 1 ? atoi(arguments[1]) : 300;
@@ -249,5 +280,6 @@ int main(int count, char **arguments)
     lengths(turns);
     writing(turns);
     answers_and_states(turns);
+    slowest(turns, arguments + 2, count > 2 ? count - 2 : 0);
     return 0;
 }

@@ -174,44 +174,89 @@ static inline void make_all_sheets(struct session *s)
     }
 }
 
-/* The saves stand in one queue, each with an X that fails the others. The first of them opens a sheet, or writes one that is only S,
-   and goes to the end, where it fails again; then it is the next one's turn. It ends with the session's bytes, or when all of them
-   have an X on every sheet. */
-static inline void turns_of(struct session *s, const char *name, int nodes, int saves)
+/* Sessions of saves in turns. */
+struct turns {
+    int nodes, saves;
+    int sheet;   /* of the queue that the saves stand in */
+    int opened;  /* how many other sheets a save reads in its first run */
+    int written; /* has one more save written all sheets before? */
+};
+
+static inline void write_all(struct session *s, int nodes, int t)
 {
-    int first = saves, turn = 2 + 3 + 7 + 2 + 2 * nodes;
-    header(s, name, nodes, ALL_SHEETS);
-    for (int i = 0; i <= saves; i++) {
+    on_save(s, 1, t);
+    for (int k = 0; k < ALL_SHEETS; k++) {
+        read_sheet(s, t, k);
+        write_sheet(s, t, k, 1);
+    }
+    on_save(s, 4, t);
+    nodes_take(s, nodes);
+    on_save(s, 6, t);
+    nodes_apply(s, nodes, t);
+}
+
+/* The saves stand in one queue, each with an X that fails the others. */
+static inline void line_up(struct session *s, struct turns x)
+{
+    int first = x.saves;
+    for (int i = 0; i <= x.saves; i++) {
         int t = i ? i - 1 : first;
         on_save(s, 1, t);
-        read_sheet(s, t, 0);
-        write_sheet(s, t, 0, (uint32_t)t);
+        read_sheet(s, t, x.sheet);
+        write_sheet(s, t, x.sheet, (uint32_t)t);
+        for (int k = 1; k <= x.opened && t != first; k++)
+            read_sheet(s, t, (x.sheet + k) % ALL_SHEETS);
     }
-    for (int i = 0; i <= saves; i++) {
+    for (int i = 0; i <= x.saves; i++) {
         on_save(s, 4, i ? i - 1 : first);
-        nodes_take(s, nodes);
+        nodes_take(s, x.nodes);
     }
     on_save(s, 6, first);
-    COMMAND(s, 7, 0, (uint8_t)first);
-    for (int round = 1; round < 2 * ALL_SHEETS - 1; round++)
-        for (int t = 0; t < saves; t++) {
+    COMMAND(s, 7, (uint8_t)(x.sheet % x.nodes), (uint8_t)first);
+}
+
+/* The first save in the queue opens a sheet, or writes one that is only S, and goes to the end, where it fails again; then it is the
+   next one's turn. It ends with the session's bytes, or when all of them have an X on every sheet. */
+static inline void make_turns_of(struct session *s, const char *name, struct turns x)
+{
+    int turn = 2 + 3 + 7 + 2 + 2 * x.nodes;
+    header(s, name, x.nodes, ALL_SHEETS);
+    if (x.written)
+        write_all(s, x.nodes, SAVES - 1);
+    line_up(s, x);
+    for (int round = x.opened + 1; round < 2 * ALL_SHEETS - 1; round++)
+        for (int t = 0; t < x.saves; t++) {
             if (SESSION_BYTES - s->length < (size_t)turn)
                 return;
             on_save(s, 6, t);
-            int writes = round >= ALL_SHEETS, k = writes ? round - ALL_SHEETS + 1 : round;
+            int writes = round >= ALL_SHEETS, k = (x.sheet + (writes ? round - ALL_SHEETS + 1 : round)) % ALL_SHEETS;
             read_sheet(s, t, k);
             if (writes)
                 write_sheet(s, t, k, (uint32_t)(t * 1000003 + k));
             on_save(s, 4, t);
-            nodes_take(s, nodes);
+            nodes_take(s, x.nodes);
         }
 }
 
-static inline void make_turns_of_two(struct session *s) { turns_of(s, "a sheet in each run", ALL_NODES, 2); }
+static inline void make_turns_of_two(struct session *s)
+{
+    make_turns_of(s, "a sheet in each run", (struct turns){ .nodes = ALL_NODES, .saves = 2 });
+}
 
-static inline void make_turns(struct session *s) { turns_of(s, "32 saves in turns", ALL_NODES, SAVES - 1); }
+static inline void make_turns(struct session *s)
+{
+    make_turns_of(s, "32 saves in turns", (struct turns){ .nodes = ALL_NODES, .saves = SAVES - 1 });
+}
 
-static inline void make_turns_at_one(struct session *s) { turns_of(s, ".., at one node", 1, SAVES - 1); }
+static inline void make_turns_at_one(struct session *s)
+{
+    make_turns_of(s, ".., at one node", (struct turns){ .nodes = 1, .saves = SAVES - 1 });
+}
+
+/* Once all sheets have been X, a hint that is never taken back says so for good; and the X that a save meets is on the last sheet. */
+#define ALL_WRITTEN ((struct turns){ .nodes = 1, .saves = SAVES - 2, .sheet = ALL_SHEETS - 1, .written = 1 })
+
+static inline void make_all_written(struct session *s) { make_turns_of(s, "all written, in turns", ALL_WRITTEN); }
 
 /* Each save has a copy of all 64 sheets and an entry in every queue, half of them X: a state with many lines, most of them long. */
 static inline void make_queues(struct session *s)
