@@ -1,18 +1,18 @@
--- Numbers copied one at a time, and the list as the host sees it.
-use Prim.Native.Nat.{ℕ, suc, _+_, _≤_, _<_}
+-- The list in a room that it fits or not, and as the host sees it.
+use Prim.Native.Nat.{ℕ, _≤_}
 use mathlib.Core.Path.{_≡_, refl, sym, ap, _∙_}
-use mathlib.Core.List.{List, [], _∷_, _++_, map}
-use native.Mathlib.Numerals.{add-one}
+use mathlib.Core.List.{List, _++_, map}
 use native.Mathlib.Omega.{arith}
 use borrow.Author.Tests.{le-ltb}
-use lib.ListN.{length, getD, take, drop, set, length-map}
+use lib.ListN.{length, take, drop, length-map}
 use lib.Dec.{ltb}
-use lib.Seq.{length-take-le, take-suc, take-at, drop-cons, append-snoc, set-at}
+use lib.Seq.{take-at}
 use Rattle.rules.specs.Writing as lists
 use Rattle.rules.specs.Calls as calls
 use Rattle.rules.proofs.Table.{bool}
-use Rattle.text.specs.Wrote.{Wrote}
-use Rattle.clipped.proofs.Laws.{front-of}
+use Rattle.rules.specs.Sizes.{max-commands}
+use Rattle.rules.specs.Report.{Filled}
+use Rattle.text.proofs.Writing.{wrote-as, wrote-front, wrote-end}
 use Rattle.rules.specs.Answers.{session-replies}
 use Rattle.wire.specs.declared.Opened.the-variants.{Header, Bad}
 use Rattle.wire.specs.Meaning.{opened}
@@ -21,15 +21,22 @@ use Rattle.codes.specs.Codes.{coded, answer-code, told-call, fitted}
 use Rattle.codes.proofs.Laws.{length-is}
 use Rattle.codes.specs.Decoding.{answer-of, outcome-in}
 use Rattle.answers.specs.Meaning.{answers-call, AnswersAgain}
+use Rattle.answers.specs.Telling.{Listed}
 
-pub one-more : (list room : List ℕ) (i : ℕ) → i < length list → i < length room → set (take i list ++ drop i room) i (getD list i 0) ≡ take (i + 1) list ++ drop (i + 1) room
-one-more list room i h k =
-    rw (add-one i, drop-cons room i 0 k, set-at (take i list) (getD room i 0) (drop (suc i) room) (getD list i 0) i (length-take-le i list (omega arith)), take-suc list i 0 h)
-    (sym (append-snoc (take i list) (getD list i 0) (drop (suc i) room)))
+module _ {b room after : List ℕ} {m n : ℕ} (g : Listed b m room n after) where
+  -- the room has place for all
+  pub all-told : n ≤ length room → record { outcome = lists.wrote n; room = after } ≡ fitted (map answer-code (session-replies b)) room
+  all-told h =
+      let q = length-is (g .listed .wrote) in
+      let f = wrote-front (wrote-as refl (omega arith) (g .listed .wrote)) (let z : length (map answer-code (session-replies b)) ≤ length room = omega (arith, q, h) in z) in
+      rw (le-ltb (length room) (length (map answer-code (session-replies b))) (omega (arith, q, h))) (ap (λ (r : Filled). record { outcome = lists.wrote (r .size); room = r .buffer }) f)
 
--- a list that was made aside, as n says how long it is
-pub all-told : {l m x : List ℕ} {n u : ℕ} → Wrote l 0 x u n m → (room : List ℕ) {after : List ℕ} → u ≤ length l → n ≤ length room → after ≡ take n m ++ drop n room → record { outcome = lists.wrote n; room = after } ≡ fitted x room
-all-told {x = x} w room k h e = rw (le-ltb (length room) (length x) (omega (arith, length-is w, h)), e, front-of w k, length-is w)
+  pub few-told : n ≤ max-commands
+  few-told = wrote-end (g .listed .wrote)
+
+-- counted, and then told
+pub same-many : {b room room′ after after′ : List ℕ} {m n e : ℕ} → Listed b m room n after → Listed b m room′ e after′ → e ≡ n
+same-many f g = length-is (g .listed .wrote) ∙ sym (length-is (f .listed .wrote))
 
 -- ---- A session that opens, and one that earns refusal 1
 

@@ -11,7 +11,10 @@ use Rattle.rules.specs.Writing as lists
 use Rattle.text.specs.Wrote.{Wrote}
 use Rattle.session.specs.declared.Reply.{Reply}
 use Rattle.session.specs.declared.Reply.the-variants as reply
-use Rattle.session.specs.Meaning.{reply-of}
+use Rattle.state.specs.declared.Cause.{Cause}
+use Rattle.state.specs.declared.Verdict.{Verdict}
+use Rattle.state.specs.declared.Verdict.the-variants.{Invalid}
+use Rattle.session.specs.Meaning.{reply-of, NearVerdict}
 use Rattle.codes.specs.declared.Placed.{Placed}
 use Rattle.codes.specs.declared.Placed.the-variants.{Whole, TooShort}
 use Rattle.codes.specs.Codes.{coded, answer-code, NearReply, last-place, outcome-code, told-call, outcome-of, fitted, Small}
@@ -20,6 +23,12 @@ use Rattle.codes.proofs.Decoding.{Fitting, FittingOutcome, decoded, tol
 
 pub near-refused : (r : Reply) (p c : ℕ) → r ≡ reply.Refused p c → NearReply r → p ≤ max-session
 near-refused r p c q w = rw q at w
+
+pub near-took : (r : Reply) (t : ℕ) (v : Verdict) → r ≡ reply.Took t v → NearReply r → NearVerdict v
+near-took r t v q w = rw q at w
+
+pub near-sheet : (v : Verdict) {c : Cause} → v ≡ Invalid c → NearVerdict v → c .sheet < 65536
+near-sheet v q w = rw q at w
 
 pub told : (r x : Reply) {n : ℕ} → r ≡ x → Fitting (reply-of x) → n ≡ answer-code (reply-of x) → (n ≡ answer-code (reply-of r)) × (answer-of n ≡ reply-of r)
 told r x q h e = rw q (decoded (reply-of x) h e)

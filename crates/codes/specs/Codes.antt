@@ -7,6 +7,7 @@ use Rattle.rules.specs.Steps.{Rule, x-granted, x-waiting, counter-behind, Verdi
 use Rattle.rules.specs.Calls as calls
 use Rattle.rules.specs.Writing as lists
 use Rattle.rules.specs.Calls.{no-command, answers, refusal}
+use Rattle.session.specs.Meaning.{NearVerdict}
 use Rattle.session.specs.declared.Reply.{Reply}
 use Rattle.session.specs.declared.Reply.the-variants as reply
 use Rattle.codes.specs.declared.Placed.{Placed}
@@ -35,12 +36,12 @@ answer-code (answers commits) = coded 5 0 0
 answer-code (answers second-run) = coded 6 0 0
 answer-code (refusal p n) = coded 7 p n
 
--- a refusal's offset is one of a session
+-- a refusal's offset is one of a session, a cause's sheet near
 abbrev pub NearReply : Reply → Type 0
 NearReply reply.NoCommand = Unit {0}
 NearReply reply.Accepted = Unit {0}
 NearReply (reply.Content v) = Unit {0}
-NearReply (reply.Took t v) = Unit {0}
+NearReply (reply.Took t v) = NearVerdict v
 NearReply reply.Commits = Unit {0}
 NearReply reply.SecondRun = Unit {0}
 NearReply (reply.Refused p c) = p ≤ max-session

@@ -3,7 +3,7 @@ ghost use mathlib.Core.Path.{_≡_};
 ghost use Prim.Native.Nat.{_<_};
 ghost use Rattle.rules.specs.Steps.{took};
 ghost use Rattle.rules.specs.Calls.{answers};
-ghost use Rattle.session.specs.Meaning.{reply-of};
+ghost use Rattle.session.specs.Meaning.{reply-of, NearVerdict};
 ghost use Rattle.state.specs.View.{rule-of, verdict-of};
 ghost use Rattle.codes.specs.Codes.{coded, rule-code, verdict-code, answer-code, NearReply, outcome-code, outcome-of, Small};
 ghost use Rattle.codes.specs.Decoding.{answer-of, outcome-in};
@@ -32,6 +32,7 @@ fn rule_number(rule: Rule) -> u8
 
 // A TAKE's answer: the save, and where it was found invalid the sheet and the rule.
 fn take_code(t: u8, v: Verdict) -> u64
+    requires { ⌜ NearVerdict v ⌝ }
     ensures { λ r. ⌜ r ≡ verdict-code t (verdict-of v) ⌝ }
     ensures decoded { λ r. ⌜ answer-of r ≡ answers (took t (verdict-of v)) ⌝ }
 {

@@ -1,2 +1,5 @@
-pub mod Tables
-pub mod Kept
+pub mod Common
+pub mod Copying
+pub mod Marks
+pub mod Reading
+pub mod Writing

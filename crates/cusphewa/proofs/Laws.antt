@@ -28,16 +28,16 @@ use Rattle.session.specs.declared.Stop.the-variants.{End, Refused}
 use Rattle.session.specs.declared.Reply.{Reply}
 use Rattle.session.specs.declared.Reply.the-variants as reply
 use Rattle.session.specs.declared.Ended.{Ended}
-use Rattle.session.specs.Meaning.{stop-of, reply-of}
-use Rattle.session.specs.Carried.{Within, Answered}
-use Rattle.session.proofs.Lines.{within-less}
+use Rattle.session.specs.Meaning.{stop-of, reply-of, NearLast}
+use Rattle.session.specs.Carried.{Inside, Answered}
+use Rattle.session.proofs.Lines.{inside-less}
 use Rattle.codes.specs.Codes.{answer-code, NearReply}
 use Rattle.codes.specs.Decoding.{answer-of, part-in}
 use Rattle.cusphewa.specs.Codes.{part-code, Near}
 
 -- ---- Where a run stops
 
-near-by : (n : ℕ) (s : Stop) → n ≤ max-session → Within max-session s → Near n s
+near-by : (n : ℕ) (s : Stop) → n ≤ max-session → Inside max-session s → Near n s
 near-by n End l w = l
 near-by n (Refused p c k) l w = w
 
@@ -51,8 +51,8 @@ unfolding final
 final-last b p n e = last-of-none calls.no-command (run (fresh (header b)) (commands-of (reading b)) .events) p n (λ q. let z : _≡_ {A = ℕ} 0 1 = cc in omega arith) e
 
 module _ (b : List ℕ) (nodes sheets : ℕ) (o : Opening b nodes sheets) (r : Ended) (v : Answered b r) where
-  pub stop-small : Within max-session (r .stop)
-  stop-small = within-less (length b) max-session (r .stop) (opens-has b (o .opened-well) .0 .size) (v .within)
+  pub stop-small : Inside max-session (r .stop)
+  stop-small = inside-less (length b) max-session (r .stop) (opens-has b (o .opened-well) .0 .size) (v .within)
 
   -- ---- The answer and the stop
 
@@ -72,16 +72,16 @@ module _ (b : List ℕ) (nodes sheets : ℕ) (o : Opening b nodes sheets) (r : E
   near = near-by (length b) (r .stop) (opens-has b (o .opened-well) .0 .size) stop-small
 
   pub near-last : NearReply (r .last)
-  near-last = go (r .last) (r .stop) (v .replies)
+  near-last = go (r .last) (r .stop) (v .near) (v .replies)
     where
-      go : (x : Reply) (st : Stop) → session-final b .last ≡ reply-of x → NearReply x
-      go reply.NoCommand st e = tt
-      go (reply.Accepted) st e = tt
-      go (reply.Content u) st e = tt
-      go (reply.Took t u) st e = tt
-      go reply.Commits st e = tt
-      go reply.SecondRun st e = tt
-      go (reply.Refused p n) st e = absurd (final-last b p n e)
+      go : (x : Reply) (st : Stop) → NearLast x → session-final b .last ≡ reply-of x → NearReply x
+      go reply.NoCommand st h e = tt
+      go (reply.Accepted) st h e = tt
+      go (reply.Content u) st h e = tt
+      go (reply.Took t u) st h e = h
+      go reply.Commits st h e = tt
+      go reply.SecondRun st h e = tt
+      go (reply.Refused p n) st h e = absurd (final-last b p n e)
 
 -- ---- Refusal 1
 

@@ -25,7 +25,7 @@ ghost use Rattle.rules.specs.Writing as lists;
 ghost use Rattle.wire.specs.Meaning.{opened};
 ghost use Rattle.wire.specs.declared.Opened.the-variants.{Header};
 ghost use Rattle.session.specs.Meaning.{stop-of, reply-of};
-ghost use Rattle.session.specs.Carried.{Within, Answered};
+ghost use Rattle.session.specs.Carried.{Inside, Answered};
 ghost use Rattle.codes.specs.Codes.{answer-code, NearReply, told-call, last-place};
 ghost use Rattle.codes.specs.Decoding.{answer-of, outcome-in, as-told, part-in};
 ghost use Rattle.cusphewa.specs.Codes.{part-code, Near};
@@ -92,7 +92,7 @@ pub fn last_answer(session: &[u8]) -> Reply
 
 // Where a session stops.
 fn stop_of(session: &[u8]) -> Stop
-    ensures { λ r. ⌜ (stop-of r ≡ calls.stop (now (session .entry))) × Within (length (now (session .entry))) r × Near (length (now (session .entry))) r ⌝ }
+    ensures { λ r. ⌜ (stop-of r ≡ calls.stop (now (session .entry))) × Inside (length (now (session .entry))) r × Near (length (now (session .entry))) r ⌝ }
 {
     let header = wire::read_header(session);
     match header {

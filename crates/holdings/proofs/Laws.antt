@@ -1,62 +1,79 @@
--- Letters by numbers, and a save's line for a sheet by what the tables have there.
-use Prim.Native.Nat.{ℕ, zero, suc, _+_, _*_, _<_}
-use mathlib.Core.Path.{_≡_, refl, sym, ap, _∙_}
-use mathlib.Core.Bool.{Bool, true, false, not, _&&_, _||_}
-use mathlib.Core.Logic.{_≢_}
+-- A save's line for a sheet by what the sets and tables have there.
+use Prim.Native.Nat.{ℕ, _+_, _*_, _<_}
+use mathlib.Core.Path.{_≡_, refl, sym, _∙_}
+use mathlib.Core.Bool.{Bool, true, false, _||_}
 use mathlib.Core.List.{List, [], _∷_, _++_}
-use borrow.Author.Tests.{ne-eqb, eq-eqb}
+use native.Mathlib.Omega.{arith}
 use lib.ListN.{getD}
-use lib.Dec.{eqb, ltb}
-use Rattle.rules.specs.State.{State}
+use lib.Dec.{ltb}
+use Rattle.rules.specs.State.{State, claims, has-copy}
 use Rattle.rules.specs.Report.{line-end}
-use Rattle.rules.specs.Showing.{claim-letter, mark-letter, holding-head, copy-fields, copy-text, holding-line, holding-text}
-use Rattle.rules.proofs.Table.{bool}
-use Rattle.state.specs.Parts.{bytes, MARK, CLAIM, WCT}
-use Rattle.state.specs.View.{as-claim, as-mark, set?}
-use Rattle.state.specs.Lent.{reading, seen-by}
-use Rattle.state.proofs.Codes.{claims-code, has-copy-code}
-use Rattle.state.proofs.Stores.{flat-in}
+use Rattle.rules.specs.Showing.{holding-head, copy-fields, copy-text, holding-line, holding-text}
+use Rattle.sets.specs.Bit.{in-row}
+use Rattle.state.specs.View.{claim-of, mark-of, in-set, COPIED, WRITTEN, CLAIM, CLAIM-X}
+use Rattle.state.specs.Fit.{Ready, Table}
+use Rattle.state.proofs.Parts.{part-in, flat-in, member-in, set-in, in-block}
+use Rattle.holdings.specs.Held.{claim-at, mark-at, Reach, Readable, held-by}
 
-pub letter-x : (c : ℕ) → c ≢ 0 → c ≢ 1 → 88 ≡ claim-letter (as-claim c)
-letter-x zero n o = absurd (n refl)
-letter-x (suc zero) n o = absurd (o refl)
-letter-x (suc (suc c)) n o = refl
+pub readable : {m : ℕ} {b s q value seen w : List ℕ} → Ready m b s q → Table 32 m value → Table 32 m seen → Table 2 m w → Readable m s value seen w
+readable r v n w = record { few = r .known .sheets16; reach = r .kept .sized .sets; sets = r .kept .sets; values = v; counters = n; sheets = w }
 
-pub letter-w : (x : ℕ) → x ≢ 0 → x ≢ 1 → 87 ≡ mark-letter (as-mark x)
-letter-w zero n o = absurd (n refl)
-letter-w (suc zero) n o = absurd (o refl)
-letter-w (suc (suc x)) n o = refl
+-- ---- By the sets
 
-neither : (a b : Bool) → (not a || not b) ≡ not (a && b)
-neither true b = refl
-neither false b = refl
+-- an X is a claim, and what is written is copied
+claims-of : (c x : Bool) → (x ≡ true → c ≡ true) → claims (claim-of c x) ≡ c
+claims-of c true h = sym (h refl)
+claims-of true false h = refl
+claims-of false false h = refl
 
-module _ (m : ℕ) (b value seen w : List ℕ) (t k : ℕ) (km : k < m) where
-  abbrev s : State
-  s = seen-by m (reading b value seen w)
+copy-of : (c x : Bool) → (x ≡ true → c ≡ true) → has-copy (mark-of c x) ≡ c
+copy-of c true h = sym (h refl)
+copy-of true false h = refl
+copy-of false false h = refl
 
-  module _ {x : ℕ} (ex : x ≡ getD (bytes m b MARK) (t * m + k) 0) where
-    mark-is : s .mark t k ≡ as-mark x
-    mark-is = rw (flat-in m (bytes m b MARK) t k km, ← ex)
+module _ {m : ℕ} {s value seen w : List ℕ} (r : Readable m s value seen w) (t k : ℕ) (th : t < 32) (km : k < m) where
+  abbrev st : State
+  st = held-by m s value seen w
 
-    pub no-copy : x ≡ 0 → copy-text s t k ≡ []
-    no-copy e = rw (mark-is, e)
+  pub reaches : Reach s t k
+  reaches = (th, let a = r .reach in let b = in-block m k km in omega arith)
 
-    pub has-fields : x ≢ 0 → {v c n : ℕ} → v ≡ getD value (t * m + k) 0 → c ≡ getD seen (t * m + k) 0 → n ≡ getD w (WCT * m + k) 0
-        → copy-fields (record { content = v; wct = c }) (ltb c n) ≡ copy-text s t k
-    has-fields y ev ec en = sym (rw (mark-is, has-copy-code x, ne-eqb x 0 y, flat-in m value t k km, flat-in m seen t k km, flat-in m w WCT k km, ← ev, ← ec, ← en))
+  row-in : (i : ℕ) → in-set m i s t k ≡ in-row s (i + t) k
+  row-in i = set-in m i s t k th ∙ member-in m s (i + t) k km
 
-    module _ {c : ℕ} (ec : c ≡ getD (bytes m b CLAIM) (t * m + k) 0) where
-      claim-is : s .claim t k ≡ as-claim c
-      claim-is = rw (flat-in m (bytes m b CLAIM) t k km, ← ec)
+  claim-is : st .claim t k ≡ claim-at s t k
+  claim-is = rw (row-in CLAIM, row-in CLAIM-X)
 
-      pub no-line : {z : Bool} → z ≡ (eqb c 0 && eqb x 0) → z ≡ true → holding-text s t k ≡ []
-      no-line ez y = rw (mark-is, claim-is, claims-code c, has-copy-code x, neither (eqb c 0) (eqb x 0), ← ez, y)
+  mark-is : st .mark t k ≡ mark-at s t k
+  mark-is = rw (row-in COPIED, row-in WRITTEN)
 
-      has-line : {z : Bool} → z ≡ (eqb c 0 && eqb x 0) → z ≡ false → holding-line s t k ≡ holding-text s t k
-      has-line ez y = sym (rw (mark-is, claim-is, claims-code c, has-copy-code x, neither (eqb c 0) (eqb x 0), ← ez, y))
+  claimed : claims (st .claim t k) ≡ in-row s (CLAIM + t) k
+  claimed = rw claim-is (claims-of (in-row s (CLAIM + t) k) (in-row s (CLAIM-X + t) k) (λ e. sym (row-in CLAIM) ∙ r .sets .claimed t k (row-in CLAIM-X ∙ e)))
 
-      -- its parts, as they are written
-      pub line-of : {z : Bool} → z ≡ (eqb c 0 && eqb x 0) → z ≡ false → holding-head t k (as-claim c) (as-mark x) ++ copy-text s t k ++ line-end ∷ [] ≡ holding-text s t k
-      unfolding holding-line
-      line-of ez y = rw (← mark-is, ← claim-is) (has-line ez y)
+  copied : has-copy (st .mark t k) ≡ in-row s (COPIED + t) k
+  copied = rw mark-is (copy-of (in-row s (COPIED + t) k) (in-row s (WRITTEN + t) k) (λ e. sym (row-in COPIED) ∙ r .sets .written t k (row-in WRITTEN ∙ e)))
+
+  -- ---- The copy
+
+  pub no-copy : in-row s (COPIED + t) k ≡ false → copy-text st t k ≡ []
+  no-copy e = rw (copied, e)
+
+  pub has-fields : in-row s (COPIED + t) k ≡ true → {v c n : ℕ} → v ≡ getD value (t * m + k) 0 → c ≡ getD seen (t * m + k) 0 → n ≡ getD w (1 * m + k) 0
+      → copy-fields (record { content = v; wct = c }) (ltb c n) ≡ copy-text st t k
+  has-fields y ev ec en =
+      let one : 1 * m + k ≡ m + k = omega arith in
+      sym (rw (copied, y, flat-in m value t k km, flat-in m seen t k km, part-in m m w k km, ← ev, ← ec, en, one))
+
+  -- ---- The line
+
+  module _ {h : Bool} (e : h ≡ (in-row s (CLAIM + t) k || in-row s (COPIED + t) k)) where
+    shows : (claims (st .claim t k) || has-copy (st .mark t k)) ≡ h
+    shows = rw (claimed, copied, e)
+
+    pub no-line : h ≡ false → holding-text st t k ≡ []
+    no-line y = rw (shows, y)
+
+    -- its parts, as they are written
+    pub line-of : h ≡ true → holding-head t k (claim-at s t k) (mark-at s t k) ++ copy-text st t k ++ line-end ∷ [] ≡ holding-text st t k
+    unfolding holding-line
+    line-of y = rw (shows, y, claim-is, mark-is)

@@ -1,68 +1,71 @@
 // Claims and own copies as lines, C t k c m with v w b where there is a copy: of every save, and of every sheet that it claims or has a copy of.
 ghost use mathlib.Core.Path.{_≡_};
-ghost use mathlib.Core.Bool.{_&&_};
+ghost use mathlib.Core.Bool.{_||_};
 ghost use Prim.Native.Nat.{_+_, _*_, _<_, _≤_};
-ghost use lib.Dec.{eqb, ltb};
+ghost use lib.Dec.{ltb};
 ghost use Rattle.rules.specs.Showing as rules;
 ghost use Rattle.rules.specs.Showing.{rising};
+ghost use Rattle.sets.specs.Bit.{in-row};
 ghost use Rattle.text.specs.Wrote.{Wrote};
 ghost use Rattle.clipped.specs.Sizes.{most};
-ghost use Rattle.state.specs.View.{as-claim, as-mark};
-ghost use Rattle.state.specs.Parts.{bytes};
-ghost use Rattle.state.specs.Ready.{Ready, Table};
-ghost use Rattle.state.specs.Lent.{reading, seen-by};
-use state::SHARED;
+ghost use Rattle.state.specs.View.{COPIED, CLAIM};
+ghost use Rattle.holdings.specs.Held.{claim-at, mark-at, Reach, Readable, held-by};
 use state::Session;
-use state::UNCLAIMED;
 
-// A claim's letter: S, X, or - for none.
-pub fn claim_letter(c: u8) -> u8
-    ensures { λ r. ⌜ r ≡ rules.claim-letter (as-claim c) ⌝ }
+// The letter of save t's claim of sheet k: S, X, or - for none.
+fn claim_letter(s: &[u64], t: usize, k: usize) -> u8
+    requires { ⌜ Reach (now s) t k ⌝ }
+    ensures { λ r. ⌜ r ≡ rules.claim-letter (claim-at (now (s .entry)) t k) ⌝ }
 {
-    if c == UNCLAIMED {
-        return b'-';
+    let x = state::member(s, Session::CLAIM_X + t, k);
+    if x {
+        return b'X';
     }
-    if c == SHARED {
+    let c = state::member(s, Session::CLAIM + t, k);
+    if c {
         return b'S';
     }
-    b'X'
+    b'-'
 }
 
-// A mark's letter: R read, W also written, or - for no copy.
-fn mark_letter(x: u8) -> u8
-    ensures { λ r. ⌜ r ≡ rules.mark-letter (as-mark x) ⌝ }
+// The letter of its copy's mark: R read, W also written, or - for no copy.
+fn mark_letter(s: &[u64], t: usize, k: usize) -> u8
+    requires { ⌜ Reach (now s) t k ⌝ }
+    ensures { λ r. ⌜ r ≡ rules.mark-letter (mark-at (now (s .entry)) t k) ⌝ }
 {
-    if x == state::ABSENT {
-        return b'-';
+    let x = state::member(s, Session::WRITTEN + t, k);
+    if x {
+        return b'W';
     }
-    if x == state::COPIED {
+    let c = state::member(s, Session::COPIED + t, k);
+    if c {
         return b'R';
     }
-    b'W'
+    b'-'
 }
 
-// Neither a claim nor a copy.
-fn nothing(c: u8, x: u8) -> bool
-    ensures { λ r. ⌜ r ≡ (eqb c 0 && eqb x 0) ⌝ }
+// Save t claims sheet k or has a copy of it: an X is a claim, and what is written is copied.
+fn something(s: &[u64], t: usize, k: usize) -> bool
+    requires { ⌜ Reach (now s) t k ⌝ }
+    ensures { λ r. ⌜ r ≡ (in-row (now (s .entry)) (CLAIM + t) k || in-row (now (s .entry)) (COPIED + t) k) ⌝ }
 {
-    if c != UNCLAIMED {
-        return false;
-    }
-    x == state::ABSENT
+    let c = state::member(s, Session::CLAIM + t, k);
+    let x = state::member(s, Session::COPIED + t, k);
+    c | x
 }
 
 // C t k c m
-fn head(room: &mut [u8], at: usize, t: usize, k: usize, c: u8, x: u8) -> usize
-    requires { ⌜ (t < 32) × (k < 65536) × (at + 27 ≤ most) ⌝ }
+fn head(room: &mut [u8], at: usize, s: &[u64], t: usize, k: usize) -> usize
+    requires { ⌜ Reach (now s) t k × (k < 65536) × (at + 27 ≤ most) ⌝ }
     ensures { λ r. ⌜
         Wrote (now (room .entry)) at
-        (rules.holding-head t k (as-claim c) (as-mark x))
+        (rules.holding-head t k (claim-at (now (s .entry)) t k) (mark-at (now (s .entry)) t k))
         27 r (now (room .exit))
         ⌝ }
 {
     let e = clipped::line_start(room, at, b'C', t as u32, k as u32);
-    let f = clipped::letter(room, e, claim_letter(c));
-    clipped::letter(room, f, mark_letter(x))
+    let f = clipped::letter(room, e, claim_letter(s, t, k));
+    clipped::letter(room, f, mark_letter(s, t, k))
 }
 
 // B where the WCT seen is below the sheet's.
@@ -89,7 +92,7 @@ fn fields(room: &mut [u8], at: usize, v: u32, seen: u16, wct: u32) -> usize
 fn copy(
     room: &mut [u8],
     at: usize,
-    b: &[u8],
+    s: &[u64],
     value: &[u32],
     seen: &[u16],
     w: &[u32],
@@ -97,30 +100,28 @@ fn copy(
     t: usize,
     k: usize,
 ) -> usize
-    requires { ⌜
-        Ready m (bytes m (now b)) × Table 32 m (now value) × Table 32 m (now seen) × Table 2 m (now w) × (t < 32) × (k < m) × (at + 24 ≤ most)
-        ⌝ }
+    requires { ⌜ Readable m (now s) (now value) (now seen) (now w) × (t < 32) × (k < m) × (at + 24 ≤ most) ⌝ }
     ensures { λ r. ⌜
         Wrote (now (room .entry)) at
-        (rules.copy-text (seen-by m (reading (now (b .entry)) (now (value .entry)) (now (seen .entry)) (now (w .entry)))) t k)
+        (rules.copy-text (held-by m (now (s .entry)) (now (value .entry)) (now (seen .entry)) (now (w .entry))) t k)
         24 r (now (room .exit))
         ⌝ }
 {
-    let x = state::mark(b, m, t, k);
-    if x == state::ABSENT {
+    let c = state::member(s, Session::COPIED + t, k);
+    if !c {
         return at;
     }
     let v = state::cell(value, m, t, k);
-    let s = state::seen_at(seen, m, t, k);
-    let n = state::cell(w, m, Session::WCT, k);
-    fields(room, at, v, s, n)
+    let n = seen[t * m + k];
+    let x = state::cell(w, m, Session::WCT, k);
+    fields(room, at, v, n, x)
 }
 
 // Save t's line for sheet k, if it has one.
 fn holding(
     room: &mut [u8],
     at: usize,
-    b: &[u8],
+    s: &[u64],
     value: &[u32],
     seen: &[u16],
     w: &[u32],
@@ -128,23 +129,19 @@ fn holding(
     t: usize,
     k: usize,
 ) -> usize
-    requires { ⌜
-        Ready m (bytes m (now b)) × Table 32 m (now value) × Table 32 m (now seen) × Table 2 m (now w) × (t < 32) × (k < m) × (at + 52 ≤ most)
-        ⌝ }
+    requires { ⌜ Readable m (now s) (now value) (now seen) (now w) × (t < 32) × (k < m) × (at + 52 ≤ most) ⌝ }
     ensures { λ r. ⌜
         Wrote (now (room .entry)) at
-        (rules.holding-text (seen-by m (reading (now (b .entry)) (now (value .entry)) (now (seen .entry)) (now (w .entry)))) t k)
+        (rules.holding-text (held-by m (now (s .entry)) (now (value .entry)) (now (seen .entry)) (now (w .entry))) t k)
         52 r (now (room .exit))
         ⌝ }
 {
-    let c = state::claim(b, m, t, k);
-    let x = state::mark(b, m, t, k);
-    let none = nothing(c, x);
-    if none {
+    let h = something(s, t, k);
+    if !h {
         return at;
     }
-    let e = head(room, at, t, k, c, x);
-    let f = copy(room, e, b, value, seen, w, m, t, k);
+    let e = head(room, at, s, t, k);
+    let f = copy(room, e, s, value, seen, w, m, t, k);
     clipped::put(room, f, 10)
 }
 
@@ -152,26 +149,24 @@ fn holding(
 fn row(
     room: &mut [u8],
     at: usize,
-    b: &[u8],
+    s: &[u64],
     value: &[u32],
     seen: &[u16],
     w: &[u32],
     m: usize,
     t: usize,
 ) -> usize
-    requires { ⌜
-        Ready m (bytes m (now b)) × Table 32 m (now value) × Table 32 m (now seen) × Table 2 m (now w) × (t < 32) × (at + 52 * m ≤ most)
-        ⌝ }
+    requires { ⌜ Readable m (now s) (now value) (now seen) (now w) × (t < 32) × (at + 52 * m ≤ most) ⌝ }
     ensures { λ r. ⌜
         Wrote (now (room .entry)) at
-        (rising (rules.holding-text (seen-by m (reading (now (b .entry)) (now (value .entry)) (now (seen .entry)) (now (w .entry)))) t) m)
+        (rising (rules.holding-text (held-by m (now (s .entry)) (now (value .entry)) (now (seen .entry)) (now (w .entry))) t) m)
         (52 * m) r (now (room .exit))
         ⌝ }
 {
     let mut e = at;
     let mut k: usize = 0;
     while k < m {
-        e = holding(room, e, b, value, seen, w, m, t, k);
+        e = holding(room, e, s, value, seen, w, m, t, k);
         k += 1;
     }
     e
@@ -181,25 +176,23 @@ fn row(
 pub fn lines(
     room: &mut [u8],
     at: usize,
-    b: &[u8],
+    s: &[u64],
     value: &[u32],
     seen: &[u16],
     w: &[u32],
     m: usize,
 ) -> usize
-    requires { ⌜
-        Ready m (bytes m (now b)) × Table 32 m (now value) × Table 32 m (now seen) × Table 2 m (now w) × (at + 32 * (52 * m) ≤ most)
-        ⌝ }
+    requires { ⌜ Readable m (now s) (now value) (now seen) (now w) × (at + 32 * (52 * m) ≤ most) ⌝ }
     ensures { λ r. ⌜
         Wrote (now (room .entry)) at
-        (rules.holding-lines (seen-by m (reading (now (b .entry)) (now (value .entry)) (now (seen .entry)) (now (w .entry)))))
+        (rules.holding-lines (held-by m (now (s .entry)) (now (value .entry)) (now (seen .entry)) (now (w .entry))))
         (32 * (52 * m)) r (now (room .exit))
         ⌝ }
 {
     let mut e = at;
     let mut t: usize = 0;
     while t < Session::SAVES {
-        e = row(room, e, b, value, seen, w, m, t);
+        e = row(room, e, s, value, seen, w, m, t);
         t += 1;
     }
     e

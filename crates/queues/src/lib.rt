@@ -1,112 +1,48 @@
-// The tests that the commands make of queues. A queue is not stored: its entries are the saves in line that its node has met, with their byte
-// in `standing` set and a claim on the sheet. One walk over the line answers every test; it starts past the saves that have no entry any more,
-// and never looks at a place, former or last.
-ghost use Prim.Native.Nat.{_<_};
+// The front of a queue. A queue is a set of saves, and each save has the set of those placed before it, so that no test walks over places.
+ghost use Prim.Native.Nat.{_+_, _*_, _≤_, _<_};
 ghost use mathlib.Core.Path.{_≡_};
-ghost use Rattle.rules.specs.Steps.{holds, at-front, x-on, granted};
-ghost use Rattle.state.specs.Parts.{bytes};
-ghost use Rattle.state.specs.Ready.{Ready, Trimmed, Capped};
-ghost use Rattle.state.specs.Lent.{own, seen-by};
-ghost use Rattle.queues.specs.Walk.{halt-of, walked, least-of};
-use state::EXCLUSIVE;
-use state::SHARED;
+ghost use mathlib.Core.Bool.{true};
+ghost use mathlib.Core.Logic.{_≢_};
+ghost use lib.ListN.{length};
+ghost use Rattle.sets.specs.Bit.{bit};
+ghost use Rattle.state.specs.View.{QUEUE, queue-of, queue-x-of, queued, queued-x};
+ghost use Rattle.queues.specs.Front.{Ranked, Front, fronted};
 use state::Session;
-use state::UNCLAIMED;
 
-// No save: a walk that is given it stops only by claims, and one that finds none answers it.
-const NO_SAVE: u8 = Session::SAVE_NUMBERS;
-
-// An entry (e) of save u with claim c stops the walk: u is t, or c is `least` or more.
-fn halt(e: u8, c: u8, u: u8, t: u8, least: u8) -> bool
-    ensures { λ r. ⌜ r ≡ halt-of e c u t least ⌝ }
+// The one of the saves x that has none of them before it: from any of them on to one before it, as long as there is one.
+pub fn front(q: &[u64], x: u64) -> usize
+    requires { ⌜ (QUEUE ≤ length (now q)) × (x ≢ 0) × Ranked (now q) x ⌝ }
+    ensures { λ r. ⌜ Front (now (q .entry)) x r ⌝ }
 {
-    if e == 0 {
-        return false;
+    let mut u = sets::lowest(x);
+    let mut left = sets::both(x, q[Session::BEFORE + u]);
+    while left != 0 {
+        u = sets::lowest(left);
+        left = sets::both(left, q[Session::BEFORE + u]);
     }
-    if c == UNCLAIMED {
-        return false;
-    }
-    if u == t {
-        return true;
-    }
-    least <= c
+    u
 }
 
-// The first save in sheet k's queue that is t or claims `least` or more; NO_SAVE if there is none.
-fn first(b: &[u8], m: usize, k: usize, t: u8, least: u8) -> u8
-    requires { ⌜ Ready m (bytes m (now b)) × Trimmed (bytes m (now b)) × (k < m) ⌝ }
-    ensures { λ r. ⌜ r ≡ walked m (bytes m (now (b .entry))) k t least ⌝ }
+// Of the saves x, some one of y has none of x before it: the front one is of y.
+pub fn front_is(q: &[u64], x: u64, y: u64) -> bool
+    requires { ⌜ (QUEUE ≤ length (now q)) × Ranked (now q) x × ((u : _) → bit y u ≡ true → bit x u ≡ true) ⌝ }
+    ensures { λ r. ⌜ r ≡ fronted (now (q .entry)) x y ⌝ }
 {
-    let n = state::owner(b, m, k) as usize;
-    let upto = state::met(b, m, n) as usize;
-    let mut q = state::gone(b, m, n) as usize;
-    while q < upto {
-        let u = state::in_line(b, m, q);
-        let ui = u as usize;
-        let e = state::standing(b, m, n, ui);
-        let c = state::claim(b, m, ui, k);
-        let h = halt(e, c, u, t, least);
-        if h {
-            return u;
-        }
-        q += 1;
-    }
-    NO_SAVE
-}
-
-// The queue of sheet k holds an X. Where no save ever claimed one, no walk is needed.
-pub fn holds_x(b: &[u8], m: usize, k: usize) -> bool
-    requires { ⌜ Ready m (bytes m (now b)) × Trimmed (bytes m (now b)) × Capped m (bytes m (now b)) × (k < m) ⌝ }
-    ensures { λ r. ⌜ r ≡ holds (x-on (seen-by m (own (now (b .entry))) .claim) k) (seen-by m (own (now (b .entry))) .queue k) ⌝ }
-{
-    let largest = state::ever(b, m, k);
-    if largest < EXCLUSIVE {
+    if y == 0 {
         return false;
     }
-    let u = first(b, m, k, NO_SAVE, EXCLUSIVE);
-    u != NO_SAVE
+    let u = front(q, x);
+    sets::has(y, u)
 }
 
 // The front entry of sheet k's queue is an X.
-pub fn front_x(b: &[u8], m: usize, k: usize) -> bool
-    requires { ⌜ Ready m (bytes m (now b)) × Trimmed (bytes m (now b)) × (k < m) ⌝ }
-    ensures { λ r. ⌜ r ≡ at-front (x-on (seen-by m (own (now (b .entry))) .claim) k) (seen-by m (own (now (b .entry))) .queue k) ⌝ }
+pub fn front_x(q: &[u64], m: usize, k: usize) -> bool
+    requires { ⌜
+        (QUEUE + 2 * m ≤ length (now q)) × (m < 65536) × (k < m) × Ranked (now q) (queue-of m (now q) k)
+        × ((u : _) → queued-x m (now q) k u ≡ true → queued m (now q) k u ≡ true)
+        ⌝ }
+    ensures { λ r. ⌜ r ≡ fronted (now (q .entry)) (queue-of m (now (q .entry)) k) (queue-x-of m (now (q .entry)) k) ⌝ }
 {
-    let u = first(b, m, k, NO_SAVE, SHARED);
-    if u == NO_SAVE {
-        return false;
-    }
-    let c = state::claim(b, m, u as usize, k);
-    EXCLUSIVE <= c
-}
-
-// The least claim that stands in the way of claim c.
-fn least(c: u8) -> u8
-    ensures { λ r. ⌜ r ≡ least-of c ⌝ }
-{
-    if EXCLUSIVE <= c {
-        return SHARED;
-    }
-    EXCLUSIVE
-}
-
-// Save t's entry at sheet k is granted, or t claims nothing there. Where no save ever claimed an X, every S is granted.
-pub fn granted_at(b: &[u8], m: usize, k: usize, t: u8) -> bool
-    requires { ⌜ Ready m (bytes m (now b)) × Trimmed (bytes m (now b)) × Capped m (bytes m (now b)) × (k < m) × (t < 32) ⌝ }
-    ensures { λ r. ⌜ r ≡ granted (seen-by m (own (now (b .entry)))) t k ⌝ }
-{
-    let c = state::claim(b, m, t as usize, k);
-    if c == UNCLAIMED {
-        return true;
-    }
-    let e = state::ever(b, m, k);
-    if e < EXCLUSIVE {
-        return true;
-    }
-    let l = least(c);
-    let u = first(b, m, k, t, l);
-    if u == NO_SAVE {
-        return true;
-    }
-    u == t
+    let x = q[Session::QUEUE + 2 * k + 1];
+    front_is(q, q[Session::QUEUE + 2 * k], x)
 }

@@ -1,4 +1,4 @@
--- The lines of the first rows, and the rows of the first places, one at a time.
+-- The lines of the first rows, and the rows of the first saves in line, one at a time.
 use mathlib.Core.Path.{_≡_, refl, sym, ap, _∙_}
 use mathlib.Core.Bool.{cond}
 use mathlib.Core.List.{List, [], _∷_, _++_, map, map-append, append-assoc, append-nil}
@@ -11,12 +11,12 @@ use lib.Seq.{take-suc, take-suc-set}
 use lib.Dec.{eqb, ltb}
 use borrow.Author.Tests.{ne-eqb, lt-ltb}
 use Rattle.rules.specs.Report as rules
-use Rattle.state.specs.Parts.{Parts, PHASE, RUNS, LINE}
-use Rattle.state.specs.View.{as-phase}
+use Rattle.state.specs.View.{as-phase, PHASE, RUNS}
+use Rattle.state.proofs.Parts.{part-in}
 use Rattle.text.specs.Wrote.{Wrote}
 use Rattle.text.proofs.Writing.{wrote-none, wrote-next}
 use Rattle.rows.specs.declared.Row.{Row}
-use Rattle.rows.specs.Rows.{row-of, lines-of, row-in, rows-of}
+use Rattle.rows.specs.Rows.{row-of, lines-of, row-in}
 
 abbrev pub line-of : Row → List ℕ
 line-of x = rules.place-line (row-of x)
@@ -41,7 +41,7 @@ module _ (rs : List Row) where
   unfolding rules.place-lines
   row-none ys a = wrote-none ys a
 
--- ---- Rows made from the regions
+-- ---- Rows made from the line
 
 -- a phase's letter by its number
 pub letter-code : (p : ℕ) → rules.letter (as-phase p) ≡ cond (eqb p 4) (code "C") (cond (ltb 4 p) (code "D") (code "U"))
@@ -53,9 +53,11 @@ letter-code (suc (suc (suc (suc zero)))) = refl
 letter-code (suc (suc (suc (suc (suc p))))) =
     rw (ne-eqb (suc (suc (suc (suc (suc p))))) 4 (λ e. omega arith), lt-ltb 4 (suc (suc (suc (suc (suc p))))) (omega arith))
 
--- one place on, with its save, runs, phase and letter as they are read
-pub row-more : (d : Parts) (rs : List Row) (i t r p o : ℕ) → i < length rs → i < length (d LINE)
-    → t ≡ getD (d LINE) i 0 → r ≡ getD (d RUNS) t 0 → p ≡ getD (d PHASE) t 0 → o ≡ rules.letter (as-phase p) → map row-of (take i rs) ≡ rows-of d i
-    → map row-of (take (i + 1) (set rs i (record { save = t; runs = r; outcome = o }))) ≡ rows-of d (i + 1)
-row-more d rs i t r p o h l save runs phase outcome m =
-    rw (outcome, phase, runs, save, add-one i, take-suc-set rs i _ h, take-suc (d LINE) i 0 l, map-append row-of, map-append (row-in d), m)
+-- a save's row as its bytes are read
+pub row-read : (b : List ℕ) (t o : ℕ) → t < 32 → o ≡ rules.letter (as-phase (getD b (PHASE + t) 0)) → row-of (record { save = t; runs = getD b (RUNS + t) 0; outcome = o }) ≡ row-in b t
+row-read b t o h e = rw (e, part-in RUNS 32 b t h, part-in PHASE 32 b t h)
+
+-- one save on
+pub row-more : (b line : List ℕ) (rs : List Row) (i : ℕ) (r : Row) → i < length rs → i < length line → row-of r ≡ row-in b (getD line i 0)
+    → map row-of (take i rs) ≡ map (row-in b) (take i line) → map row-of (take (i + 1) (set rs i r)) ≡ map (row-in b) (take (i + 1) line)
+row-more b line rs i r h l e m = rw (add-one i, take-suc-set rs i r h, take-suc line i 0 l, map-append row-of, map-append (row-in b), m, e)

@@ -1,15 +1,15 @@
 // A state's lines. The P lines come from rows: the order of places is a list of rows, each with save, runs and outcome, by last place.
 ghost use mathlib.Core.Path.{_≡_};
-ghost use Prim.Native.Nat.{_+_, _*_, _≤_};
+ghost use Prim.Native.Nat.{_+_, _*_, _<_, _≤_};
 ghost use mathlib.Core.List.{[], map};
 ghost use lib.ListN.{length, take};
 ghost use Rattle.rules.specs.Report as rules;
-ghost use Rattle.state.specs.Parts.{byte-sizes, bytes, LINE};
-ghost use Rattle.state.specs.View.{as-phase, view};
-ghost use Rattle.state.specs.Ready.{Whole, Table, Small, Ready, Trimmed, Lined};
+ghost use Rattle.state.specs.Slices.{slices};
+ghost use Rattle.state.specs.View.{as-phase, placed, shown, ORDER};
+ghost use Rattle.state.specs.Fit.{Table};
 ghost use Rattle.text.specs.Wrote.{Wrote};
 ghost use Rattle.text.specs.Lines.{tally-of};
-ghost use Rattle.rows.specs.Rows.{row-of, lines-of, rows-of};
+ghost use Rattle.rows.specs.Rows.{row-of, lines-of, row-in, Ordered, Small, Lined};
 use state::Session;
 
 // A state's lines have at most so many bytes: a P line 26, an O line 35, the T line 35.
@@ -66,10 +66,30 @@ fn letter(phase: u8) -> u8
     b'U'
 }
 
+// The saves by last place, into a lent line: how many they are.
+pub fn line_of(line: &mut [u8], b: &[u8], q: &[u64]) -> usize
+    requires { ⌜ Ordered (now b) (now q) × (32 ≤ length (now line)) ⌝ }
+    ensures { λ r. ⌜ Lined (now (b .entry)) (now (q .entry)) (placed (now (q .entry))) (now (line .exit)) r ⌝ }
+{
+    let placed = q[Session::PLACED] as usize;
+    let mut n: usize = 0;
+    let mut p: usize = 0;
+    while p < placed {
+        let t = b[Session::ORDER + p];
+        let last = q[Session::PLACE + t as usize] as usize;
+        if last == p {
+            line[n] = t;
+            n += 1;
+        }
+        p += 1;
+    }
+    n
+}
+
 // The rows of the first `count` saves in line.
-fn rows_of(b: &[u8], m: usize, count: usize) -> [Row; Session::SAVES]
-    requires { ⌜ Whole (byte-sizes m) (bytes m (now b)) × (count ≤ 32) × Small (bytes m (now b) LINE) count ⌝ }
-    ensures { λ r. ⌜ map row-of (take count r) ≡ rows-of (bytes m (now (b .entry))) count ⌝ }
+fn rows_of(b: &[u8], line: &[u8], count: usize) -> [Row; Session::SAVES]
+    requires { ⌜ (ORDER ≤ length (now b)) × (count ≤ 32) × (count ≤ length (now line)) × Small (now line) count ⌝ }
+    ensures { λ r. ⌜ map row-of (take count r) ≡ map (row-in (now (b .entry))) (take count (now (line .entry))) ⌝ }
 {
     let none = Row {
         save: 0,
@@ -79,10 +99,10 @@ fn rows_of(b: &[u8], m: usize, count: usize) -> [Row; Session::SAVES]
     let mut rows = [none; Session::SAVES];
     let mut i: usize = 0;
     while i < count {
-        let t = state::in_line(b, m, i);
+        let t = line[i];
         let k = t as usize;
-        let r = state::runs(b, m, k);
-        let o = letter(state::phase(b, m, k));
+        let r = b[Session::RUNS + k];
+        let o = letter(b[Session::PHASE + k]);
         rows[i] = Row {
             save: t,
             runs: r,
@@ -93,27 +113,29 @@ fn rows_of(b: &[u8], m: usize, count: usize) -> [Row; Session::SAVES]
     rows
 }
 
-// All lines of a state: the P, O and T lines. 867 is 26 * 32 + 35, for the P lines and the T line. The copies' contents and the WCTs seen,
+// All lines of a state: the P, O and T lines. 867 is 26 * 32 + 35, for the P lines and the T line. The sets, the copies' contents and the WCTs seen,
 // which no line shows, are given as [].
 pub fn state_lines(
     buf: &mut [u8],
     at: usize,
     b: &[u8],
+    q: &[u64],
     w: &[u32],
     m: usize,
     accepted: u32,
     first: u32,
     second: u32,
 ) -> usize
-    requires { ⌜ Ready m (bytes m (now b)) × Trimmed (bytes m (now b)) × Lined (bytes m (now b)) × Table 2 m (now w) × (at + 867 + 35 * m ≤ length (now buf)) ⌝ }
+    requires { ⌜ Ordered (now b) (now q) × (m < 65536) × Table 2 m (now w) × (at + 867 + 35 * m ≤ length (now buf)) ⌝ }
     ensures { λ r. ⌜
         Wrote (now (buf .entry)) at
-        (rules.state-lines (view m (bytes m (now (b .entry))) [] [] (now (w .entry)) (tally-of accepted first second)))
+        (rules.state-lines (shown m (slices (now (b .entry)) [] (now (q .entry)) [] [] (now (w .entry))) (tally-of accepted first second)))
         (867 + 35 * m) r (now (buf .exit))
         ⌝ }
 {
-    let count = state::lined(b, m) as usize;
-    let rows = rows_of(b, m, count);
+    let mut line = [0u8; Session::SAVES];
+    let count = line_of(&mut line, b, q);
+    let rows = rows_of(b, &line, count);
     let e = write_rows(buf, at, rows, count);
     let f = text::sheet_lines(buf, e, w, m);
     text::tally_line(buf, f, accepted, first, second)

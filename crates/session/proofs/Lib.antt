@@ -1,5 +1,6 @@
+pub mod Lines
 pub mod Loop
+pub mod Near
+pub mod Needs
 pub mod Ready
 pub mod Turn
-pub mod Needs
-pub mod Lines

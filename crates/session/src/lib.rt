@@ -1,18 +1,18 @@
 // The run over a whole session.
 ghost use mathlib.Core.Path.{_≡_};
-ghost use Prim.Native.Nat.{_+_, _*_, _≤_};
+ghost use Prim.Native.Nat.{_+_, _*_, _≤_, _<_};
 ghost use lib.ListN.{length};
 ghost use Rattle.rules.specs.Sizes.{max-session, min-buffer};
 ghost use Rattle.rules.specs.Report as rules;
 ghost use Rattle.text.specs.Wrote.{Wrote};
-ghost use Rattle.state.specs.Parts.{bytes};
+ghost use Rattle.rows.specs.Rows.{Ordered};
 ghost use Rattle.state.specs.Slices.{slices};
-ghost use Rattle.state.specs.Ready.{Ready, Trimmed, Lined, Table};
+ghost use Rattle.state.specs.Fit.{Table};
 ghost use Rattle.wire.specs.Meaning.{opened};
 ghost use Rattle.wire.specs.declared.Opened.the-variants.{Header};
-ghost use Rattle.session.specs.Meaning.{refusal-in, reply-to, stop-of};
+ghost use Rattle.session.specs.Meaning.{refusal-in, reply-to, halt-line, stop-at, stop-of};
 ghost use Rattle.session.specs.Looping.{Begins};
-ghost use Rattle.session.specs.Carried.{Within, Carried, filled, lines-of, Answered};
+ghost use Rattle.session.specs.Carried.{Within, Inside, Carried, filled, lines-of, Answered};
 use limits::MIN_BUFFER;
 use state::Answer;
 use state::Session;
@@ -24,6 +24,12 @@ use wire::Next;
 pub enum Stop {
     End,
     Refused(usize, u8, usize),
+}
+
+// The same without the bytes shown, which the walk does not ask for.
+pub enum Halt {
+    End,
+    Refused(usize, u8),
 }
 
 // The answer of a call on a session.
@@ -86,11 +92,11 @@ impl Last {
 pub struct Walked {
     pub tally: Tally,
     pub last: Last,
-    pub stop: Stop,
+    pub stop: Halt,
 }
 
 // Where the walk stops.
-fn halted(tally: Tally, last: Last, stop: Stop) -> Walked
+fn halted(tally: Tally, last: Last, stop: Halt) -> Walked
     ensures { λ r. ⌜ r ≡ record { tally = tally; last = last; stop = stop } ⌝ }
 {
     Walked {
@@ -119,24 +125,36 @@ fn closed(size: usize, last: Reply, stop: Stop) -> Ended
 }
 
 // R p c, after a refusal only.
-fn stop_line(buf: &mut [u8], at: usize, stop: Stop) -> usize
+fn stop_line(buf: &mut [u8], at: usize, stop: Halt) -> usize
     requires { ⌜ (at + 24 ≤ length (now buf)) × Within max-session stop ⌝ }
-    ensures { λ r. ⌜ Wrote (now (buf .entry)) at (rules.stop-line (stop-of stop)) 24 r (now (buf .exit)) ⌝ }
+    ensures { λ r. ⌜ Wrote (now (buf .entry)) at (halt-line stop) 24 r (now (buf .exit)) ⌝ }
 {
     match stop {
-        Stop::End => at,
-        Stop::Refused(p, n, _) => text::refusal_line(buf, at, p as u32, n),
+        Halt::End => at,
+        Halt::Refused(p, n) => text::refusal_line(buf, at, p as u32, n),
+    }
+}
+
+// Where a run stopped, with the number of bytes shown.
+fn stopped(session: &[u8], stop: Halt) -> Stop
+    requires { ⌜ Within (length (now session)) stop ⌝ }
+    ensures { λ r. ⌜ stop-of r ≡ stop-at (now (session .entry)) stop ⌝ }
+    ensures within { λ r. ⌜ Inside (length (now (session .entry))) r ⌝ }
+{
+    match stop {
+        Halt::End => Stop::End,
+        Halt::Refused(p, n) => {
+            let z = wire::shown(&session[p..]);
+            Stop::Refused(p, n, z)
+        }
     }
 }
 
 // The report of a walk: the state's lines, of at most 867 + 35 * m bytes, then the stop's, of at most 24. A buffer that is too short for a
 // report is left alone.
-fn report_lines(report: &mut [u8], b: &[u8], w: &[u32], m: usize, r: Walked) -> usize
-    requires { ⌜
-        Ready m (bytes m (now b)) × Trimmed (bytes m (now b)) × Lined (bytes m (now b)) × Table 2 m (now w)
-        × (891 + 35 * m ≤ min-buffer) × Within max-session (r .stop)
-        ⌝ }
-    ensures { λ z. ⌜ record { size = z; buffer = now (report .exit) } ≡ filled (lines-of m (now (b .entry)) (now (w .entry)) r) (now (report .entry)) ⌝ }
+fn report_lines(report: &mut [u8], b: &[u8], q: &[u64], w: &[u32], m: usize, r: Walked) -> usize
+    requires { ⌜ Ordered (now b) (now q) × (m < 65536) × Table 2 m (now w) × (891 + 35 * m ≤ min-buffer) × Within max-session (r .stop) ⌝ }
+    ensures { λ z. ⌜ record { size = z; buffer = now (report .exit) } ≡ filled (lines-of m (now (b .entry)) (now (q .entry)) (now (w .entry)) r) (now (report .entry)) ⌝ }
     ensures fits { λ z. ⌜ z ≤ length (now (report .entry)) ⌝ }
 {
     if report.len() < MIN_BUFFER {
@@ -144,7 +162,7 @@ fn report_lines(report: &mut [u8], b: &[u8], w: &[u32], m: usize, r: Walked) -> 
     }
     let t = r.tally;
     let stop = r.stop;
-    let at = rows::state_lines(report, 0, b, w, m, t.accepted, t.first, t.second);
+    let at = rows::state_lines(report, 0, b, q, w, m, t.accepted, t.first, t.second);
     stop_line(report, at, stop)
 }
 
@@ -152,14 +170,15 @@ fn report_lines(report: &mut [u8], b: &[u8], w: &[u32], m: usize, r: Walked) -> 
 pub fn walk(
     session: &[u8],
     b: &mut [u8],
-    listed: &mut [u16],
+    s: &mut [u64],
+    q: &mut [u64],
     value: &mut [u32],
     seen: &mut [u16],
     w: &mut [u32],
     m: usize,
 ) -> Walked
-    requires { ⌜ Begins (now session) m (slices (now b) (now listed) (now value) (now seen) (now w)) ⌝ }
-    ensures { λ r. ⌜ Carried (now (session .entry)) m (slices (now (b .exit)) (now (listed .exit)) (now (value .exit)) (now (seen .exit)) (now (w .exit))) r ⌝ }
+    requires { ⌜ Begins (now session) m (slices (now b) (now s) (now q) (now value) (now seen) (now w)) ⌝ }
+    ensures { λ r. ⌜ Carried (now (session .entry)) m (slices (now (b .exit)) (now (s .exit)) (now (q .exit)) (now (value .exit)) (now (seen .exit)) (now (w .exit))) r ⌝ }
 {
     let mut tally = Tally::new();
     let mut last = Last::NONE;
@@ -168,22 +187,22 @@ pub fn walk(
         let next = wire::read_next(&session[at..]);
         match next {
             Next::Step(c, z) => {
-                let a = engine::step(b, listed, value, seen, w, m, c);
+                let a = engine::step(b, s, q, value, seen, w, m, c);
                 let n = refusal(a);
                 if n != 0 {
-                    return halted(tally, last, Stop::Refused(at, n, 1 + z));
+                    return halted(tally, last, Halt::Refused(at, n));
                 }
                 let t = tally.advanced(a);
                 tally = t;
                 last = Last { answer: a };
-                at = at + 1 + z;
+                at = at + z;
             }
-            Next::Unknown => return halted(tally, last, Stop::Refused(at, 2, 1)),
-            Next::Cut => return halted(tally, last, Stop::Refused(at, 3, session.len() - at)),
-            Next::End => return halted(tally, last, Stop::End),
+            Next::Unknown => return halted(tally, last, Halt::Refused(at, 2)),
+            Next::Cut => return halted(tally, last, Halt::Refused(at, 3)),
+            Next::End => return halted(tally, last, Halt::End),
         }
     }
-    halted(tally, last, Stop::End)
+    halted(tally, last, Halt::End)
 }
 
 // Carries a session with this header through, and writes its report if it is lent room for one. The slices live here: tables for as many
@@ -195,25 +214,37 @@ pub fn run(session: &[u8], report: &mut [u8], nodes: u8, sheets: u16) -> Ended
     ensures fits { λ r. ⌜ r .size ≤ length (now (report .entry)) ⌝ }
 {
     let mut b = [0u8; Session::BYTES];
-    let mut listed = [0u16; Session::LISTS];
+    let mut s = [0u64; Session::SETS];
+    let mut q = [0u64; Session::QUEUES];
     let mut value = [0u32; Session::COPIES];
     let mut seen = [0u16; Session::COPIES];
     let mut w = [0u32; Session::STORE];
     let m = sheets as usize;
     let end = 2 + m;
-    Session::fresh(&mut b, &listed, &value, &seen, &w, nodes, &session[2..end]);
+    Session::fresh(
+        &mut b,
+        &mut s,
+        &q,
+        &value,
+        &seen,
+        &w,
+        nodes,
+        &session[2..end],
+    );
     let r = walk(
         session,
         &mut b,
-        &mut listed,
+        &mut s,
+        &mut q,
         &mut value,
         &mut seen,
         &mut w,
         m,
     );
-    let size = report_lines(report, &b, &w, m, r);
+    let size = report_lines(report, &b, &q, &w, m, r);
     let last = r.last;
     let a = last.answer;
-    let stop = r.stop;
+    let h = r.stop;
+    let stop = stopped(session, h);
     closed(size, told(a), stop)
 }

@@ -1,29 +1,52 @@
--- Letters and lines by what the regions have, and the text of the state that they show.
-use Prim.Native.Nat.{ℕ, zero, suc, _+_, _*_, _≤_, _<_}
-use mathlib.Core.Path.{_≡_, refl, sym, ap, _∙_}
-use mathlib.Core.Bool.{Bool, true, false, _&&_, cond}
+-- Letters and lines by what the slices have, and the text of the state that they show.
+use Prim.Native.Nat.{ℕ, zero, suc, _+_, _≤_, _<_}
+use mathlib.Core.Path.{_≡_, refl, sym, _∙_}
+use mathlib.Core.Bool.{Bool, true, false, _&&_}
 use mathlib.Core.Logic.{_≢_}
 use mathlib.Core.List.{List, [], _∷_, _++_}
 use native.Mathlib.Omega.{arith}
-use borrow.Author.Tests.{ne-eqb, eq-eqb, lt-ltb, le-ltb}
-use lib.ListN.{length, getD, take}
-use lib.Seq.{getD-take}
-use lib.Dec.{eqb, ltb}
-use Rattle.rules.specs.State.{State, Tally, is-second, wide, at, is-last}
+use borrow.Author.Tests.{ne-eqb, eq-eqb, lt-ltb, le-ltb, ltb-true}
+use lib.ListN.{length, getD, length-drop}
+use lib.Seq.{getD-take, getD-drop, length-take-le}
+use lib.Dec.{eqb}
+use Rattle.rules.specs.State.{State, Tally, is-second, at}
 use Rattle.rules.specs.Report.{rows, state-lines}
-use Rattle.rules.specs.Showing.{phase-letter, wide-letter, has-place, save-head, save-marks, place-field, save-line, save-text, last-letter, order-line-of, order-line, save-lines, order-lines, node-lines, holding-line, holding-lines, entry-line, queue-lines, state-text}
+use Rattle.rules.specs.Showing.{phase-letter, wide-letter, has-place, save-head, save-marks, place-field, save-line, save-text, order-line-of, order-line, save-lines, order-lines, node-lines, holding-line, holding-lines, entry-line, queue-lines, state-text}
+use Rattle.rules.proofs.Table.{and-l}
 use Rattle.text.specs.Wrote.{Wrote}
 use Rattle.text.proofs.Writing.{wrote-none, wrote-then}
 use Rattle.clipped.proofs.Laws.{wrote-within}
-use Rattle.state.specs.Parts.{Parts, bytes, word, PHASE, PLACE, ORDER}
-use Rattle.state.specs.View.{as-phase, placed, place-in, view, no-tally}
-use Rattle.state.specs.Ready.{Ready}
 use Rattle.state.specs.Slices.{slices}
-use Rattle.state.specs.Lent.{own, reading, seen-by, shown}
+use Rattle.state.specs.View.{as-phase, set?, part, placed, place-in, order-in, shown, bare, PHASE, FAILED, RUNS, PLACE, ORDER, TAKEN}
+use Rattle.state.specs.Fit.{Ready}
 use Rattle.state.proofs.Codes.{second-code, unused-code}
-use Rattle.state.proofs.Places.{order-length}
-use Rattle.saves.specs.Rows.{wide-upto}
-use Rattle.saves.proofs.Phases.{wide-code}
+use Rattle.state.proofs.Known.{taken-few}
+use Rattle.state.proofs.Parts.{part-in}
+use Rattle.submits.specs.Wide.{wide-in}
+use Rattle.rows.specs.Rows.{Ordered}
+use Rattle.rows.proofs.Lines.{ordered}
+use Rattle.holdings.specs.Held.{held-by}
+use Rattle.showing.specs.Shows.{Marked, Numbered, numbered-by}
+
+-- ---- What is kept and known
+
+pub marked : {m : ℕ} {b s q : List ℕ} → Ready m b s q → Marked m b s
+marked r = record {
+  bytes = let a = r .kept .sized .bytes in omega arith;
+  few = r .known .sheets16;
+  reach = r .kept .sized .sets;
+  sets = r .kept .sets;
+}
+
+pub numbered : {m : ℕ} {b s q : List ℕ} → Ready m b s q → Numbered b q
+numbered {q = q} r = record {
+  ordered = ordered r;
+  fits = r .kept .sized .fits;
+  takens = λ n h. rw (part-in TAKEN 8 q n h) at (taken-few r n h);
+  nodes = r .known .nodes8;
+}
+
+-- ---- A save's line
 
 pub letter-d : (p : ℕ) → p ≢ 0 → p ≢ 1 → p ≢ 2 → p ≢ 3 → p ≢ 4 → 68 ≡ phase-letter (as-phase p)
 letter-d zero a b c d e = absurd (a refl)
@@ -33,54 +56,71 @@ letter-d (suc (suc (suc zero))) a b c d e = absurd (d refl)
 letter-d (suc (suc (suc (suc zero)))) a b c d e = absurd (e refl)
 letter-d (suc (suc (suc (suc (suc p))))) a b c d e = refl
 
-module _ (m : ℕ) (b : List ℕ) (ready : Ready m (bytes m b)) where
-  abbrev d : Parts
-  d = bytes m b
+module _ (m : ℕ) (b s : List ℕ) (t : ℕ) (h : t < 32) {p : ℕ} (ep : p ≡ getD b (PHASE + t) 0) where
+  phase-is : part PHASE 32 b t ≡ p
+  phase-is = part-in PHASE 32 b t h ∙ sym ep
 
-  abbrev s : State
-  s = seen-by m (own b)
+  pub not-later : p ≢ 3 → 45 ≡ wide-letter (is-second (as-phase (part PHASE 32 b t)) && wide-in m s t)
+  not-later n = rw (phase-is, second-code p, ne-eqb p 3 n)
 
-  -- ---- A save's line
+  pub later : p ≡ 3 → {w : Bool} → w ≡ wide-in m s t → wide-letter w ≡ wide-letter (is-second (as-phase (part PHASE 32 b t)) && wide-in m s t)
+  later e ew = rw (phase-is, second-code p, eq-eqb p 3 e, ew)
 
-  module _ (t : ℕ) (t32 : t < 32) {p : ℕ} (ep : p ≡ getD (d PHASE) t 0) where
-    pub not-later : p ≢ 3 → 45 ≡ wide-letter (is-second (s .phase t) && wide s t)
-    not-later n = rw (← ep, second-code p, ne-eqb p 3 n)
+  module _ (q : List ℕ) where
+    abbrev st : State
+    st = bare m b s q
 
-    pub later : p ≡ 3 → {w : Bool} → w ≡ wide-upto m d t m → wide-letter w ≡ wide-letter (is-second (s .phase t) && wide s t)
-    later e ew = rw (← ep, second-code p, eq-eqb p 3 e, wide-code ready t t32 ep ew (slices b [] [] [] []) no-tally)
+    pub unused-text : {l : List ℕ} {a : ℕ} → p ≡ 0 → Wrote l a (save-text st t) 41 a l
+    unused-text {l} {a} e = wrote-within (rw (phase-is, unused-code p, eq-eqb p 0 e)) (omega arith) (wrote-none l a)
 
-    pub unused-text : {l : List ℕ} {a : ℕ} → p ≡ 0 → Wrote l a (save-text s t) 41 a l
-    unused-text {l} {a} e = wrote-within (rw (← ep, unused-code p, eq-eqb p 0 e)) (omega arith) (wrote-none l a)
-
-    pub save-is : {l i j k n : List ℕ} {a e f g z r : ℕ} → p ≢ 0 → r ≡ s .runs t → Wrote l a (save-head t (as-phase p) r) 25 e i → Wrote i e (save-marks (s .failed t) (is-second (s .phase t) && wide s t)) 4 f j
-        → Wrote j f (place-field (has-place s t) (s .place t)) 11 g k → Wrote k g (10 ∷ []) 1 z n → Wrote l a (save-text s t) 41 z n
+    pub save-is : {l i j k n : List ℕ} {a e f g z : ℕ} → p ≢ 0 → Wrote l a (save-head t (as-phase p) (getD b (RUNS + t) 0)) 25 e i
+        → Wrote i e (save-marks (set? (part FAILED 32 b t)) (is-second (as-phase (part PHASE 32 b t)) && wide-in m s t)) 4 f j
+        → Wrote j f (place-field (has-place (numbered-by b q) t) (place-in q t)) 11 g k → Wrote k g (10 ∷ []) 1 z n → Wrote l a (save-text st t) 41 z n
     unfolding save-line
-    save-is y er u v w x = wrote-within (rw (← ep, unused-code p, ne-eqb p 0 y, er)) (omega arith) (wrote-then (wrote-then (wrote-then u v) w) x)
+    save-is y u v w x =
+        wrote-within (rw (phase-is, unused-code p, ne-eqb p 0 y, part-in RUNS 32 b t h)) (omega arith) (wrote-then (wrote-then (wrote-then u (rw phase-is at v)) w) x)
 
-  -- ---- Places
+-- ---- Places
 
-  order-at : (q : ℕ) → q < placed d → at (s .order) q ≡ getD (d ORDER) q 0
-  order-at q l = getD-take (placed d) (d ORDER) q 0 l
+module _ {b q : List ℕ} (o : Ordered b q) where
+  abbrev places : State
+  places = numbered-by b q
 
-  module _ (t : ℕ) {q : ℕ} (eq : q ≡ place-in d t) where
-    pub no-place : {n : ℕ} → n ≡ placed d → n ≤ q → false ≡ has-place s t
-    no-place en l = sym (rw (order-length m d (ready .shaped), le-ltb (place-in d t) (placed d) (omega (arith, en, eq, l))))
+  pub order-length : length (places .order) ≡ placed q
+  order-length = length-take-le (placed q) (order-in b) (rw (length-drop ORDER b) (let a = o .bytes in omega arith))
 
-    pub some-place : {n u : ℕ} → n ≡ placed d → q < n → u ≡ getD (d ORDER) q 0 → eqb u t ≡ has-place s t
-    some-place en l eu =
-        let z : place-in d t < placed d = omega (arith, en, eq, l) in
-        sym (rw (order-length m d (ready .shaped), lt-ltb (place-in d t) (placed d) z, order-at (place-in d t) z, ← eq, ← eu))
+  order-at : (p : ℕ) → p < placed q → at (places .order) p ≡ getD b (ORDER + p) 0
+  order-at p l = getD-take (placed q) (order-in b) p 0 l ∙ getD-drop ORDER b p 0
 
-  -- the line of place q, of save t
-  pub order-is : (q : ℕ) {t : ℕ} → q < placed d → t ≡ getD (d ORDER) q 0 → order-line-of q t (eqb (s .place t) q) ≡ order-line s q
-  order-is q l et = rw (order-at q l, et)
+  pub save-small : (p : ℕ) → p < placed q → getD b (ORDER + p) 0 < 32
+  save-small p l = rw (getD-drop ORDER b p 0) at (o .small p l)
+
+  module _ (t : ℕ) (h : t < 32) {p : ℕ} (ep : p ≡ getD q (PLACE + t) 0) where
+    place-is : place-in q t ≡ p
+    place-is = part-in PLACE 32 q t h ∙ sym ep
+
+    pub no-place : placed q ≤ p → false ≡ has-place places t
+    no-place l = sym (rw (place-is, order-length, le-ltb p (placed q) l))
+
+    pub some-place : p < placed q → eqb (getD b (ORDER + p) 0) t ≡ has-place places t
+    some-place l = sym (rw (place-is, order-length, lt-ltb p (placed q) l, order-at p l))
+
+    -- it is one of the order's
+    pub place-small : {h : Bool} → h ≡ has-place places t → h ≡ true → p < placed q
+    place-small eh y =
+        let z = and-l _ _ (sym eh ∙ y) in
+        rw (order-length, place-is) at (ltb-true (place-in q t) (length (places .order)) z)
+
+  -- the line of place p, of save t
+  pub order-is : (p : ℕ) {t : ℕ} → p < placed q → t ≡ getD b (ORDER + p) 0 → order-line-of p t (eqb (place-in q t) p) ≡ order-line places p
+  order-is p l et = rw (order-at p l, et)
 
 -- ---- The text
 
-module _ (m : ℕ) (b value seen w : List ℕ) (tally : Tally) where
+module _ (m : ℕ) (b s q value seen w : List ℕ) (tally : Tally) where
   pub all-lines :
-      state-lines (view m (bytes m b) [] [] w tally) ++ save-lines (seen-by m (own b)) ++ order-lines (seen-by m (own b)) ++ node-lines (seen-by m (own b))
-      ++ holding-lines (seen-by m (reading b value seen w)) ++ queue-lines (seen-by m (own b))
-      ≡ state-text (shown m (slices b [] value seen w) tally)
+      state-lines (shown m (slices b [] q [] [] w) tally) ++ save-lines (bare m b s q) ++ order-lines (numbered-by b q) ++ node-lines (numbered-by b q)
+      ++ holding-lines (held-by m s value seen w) ++ queue-lines (bare m b s q)
+      ≡ state-text (shown m (slices b s q value seen w) tally)
   unfolding rows state-lines save-line save-lines order-lines node-lines holding-line holding-lines entry-line queue-lines state-text
   all-lines = refl

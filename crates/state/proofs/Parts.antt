@@ -1,94 +1,135 @@
--- A store to a place of a region leaves the other regions alone, whatever their sizes.
-use Prim.Native.Nat.{ℕ, zero, suc, _+_, _*_, _-_, _≤_, _<_}
-use mathlib.Core.Path.{_≡_, refl, fun-ext, _∙_}
+-- What the tables and sets of a slice are after a change of it.
+use Prim.Native.Nat.{ℕ, zero, suc, _+_, _*_, _/_, _%_, _≤_, _<_}
+use mathlib.Core.Path.{_≡_, refl, sym, ap, _∙_, fun-ext}
+use mathlib.Core.Bool.{false}
+use mathlib.Core.Logic.{_≢_}
 use mathlib.Core.List.{List}
 use native.Mathlib.Omega.{arith}
-use native.Mathlib.Nat.{not-suc-le-zero, le-refl, min-le-right}
-use lib.ListN.{length, getD, take, drop, set, length-set, length-take, length-drop}
-use lib.Seq.{getD-take, getD-drop, take-set-lt, take-set-le, drop-set-lt, drop-set-add, length-take-le}
-use borrow.Author.Tests.{eq-eqb, ne-eqb}
-use Rattle.rules.proofs.Table.{same?, below?}
-use Rattle.state.specs.Parts.{Parts, parts, size, off, all-of, put, store}
-use Rattle.state.specs.Fill.{fill}
-use Rattle.state.specs.Ready.{Whole}
-use Rattle.state.proofs.Tables.{past}
+use lib.ListN.{length, getD, set}
+use lib.Seq.{getD-set-same, getD-set-other}
+use borrow.Author.Tests.{lt-ltb, le-ltb}
+use Rattle.rules.specs.Table.{upd, upd2}
+use Rattle.rules.proofs.Table.{below?, same?, upd-same, upd-other}
+use Rattle.sets.specs.Bit.{bit, word, in-row, stride, blocks}
+use Rattle.state.specs.View.{part, flat, member, in-set, owner-in, queue-of, queue-x-of, OWNED, QUEUE}
+use Rattle.state.proofs.Cells.{cell-same}
+use Rattle.state.proofs.Tables.{upd2-by}
 
--- regions do not overlap
-off-below : (z : List ℕ) (q r : ℕ) → q < r → off z q + size z q ≤ off z r
-off-below z q zero h = absurd (not-suc-le-zero h)
-off-below z q (suc r) h = same? q r (λ e. rw e (le-refl (off z r + size z r))) (λ n. let y = off-below z q r (omega arith) in omega arith)
+-- ---- Tables
 
-module _ (z b : List ℕ) (r i : ℕ) (h : i < size z r) where
-  pub parts-get : getD b (off z r + i) 0 ≡ getD (parts z b r) i 0
-  unfolding parts
-  parts-get = rw (getD-take (size z r) (drop (off z r) b) i 0 h, getD-drop (off z r) b i 0)
+module _ (off size : ℕ) where
+  pub part-in : (l : List ℕ) (i : ℕ) → i < size → part off size l i ≡ getD l (off + i) 0
+  unfolding part
+  part-in l i h = rw (lt-ltb i size h)
 
-  pub parts-set : (v : ℕ) → parts z (set b (off z r + i) v) ≡ store (parts z b) r i v
-  unfolding parts
-  parts-set v = fun-ext (λ q. same? q r
-      (λ e. rw (e, eq-eqb r r refl, drop-set-add (off z r) b i v) (take-set-lt (size z r) (drop (off z r) b) i v h))
-      (λ n. rw (ne-eqb q r n) (below? q r (λ l. before q l) (λ l. after q (omega arith)))))
+  pub part-past : (l : List ℕ) (i : ℕ) → size ≤ i → part off size l i ≡ 0
+  unfolding part
+  part-past l i h = rw (le-ltb i size h)
+
+  -- two slices with the same table
+  pub part-same : (l l′ : List ℕ) → ((i : ℕ) → i < size → getD l′ (off + i) 0 ≡ getD l (off + i) 0) → part off size l′ ≡ part off size l
+  part-same l l′ e = fun-ext (λ i. below? i size (λ h. part-in l′ i h ∙ e i h ∙ sym (part-in l i h)) (λ h. part-past l′ i h ∙ sym (part-past l i h)))
+
+  pub part-apart : (l : List ℕ) (j v : ℕ) → ((i : ℕ) → i < size → off + i ≢ j) → part off size (set l j v) ≡ part off size l
+  part-apart l j v d = part-same l (set l j v) (λ i h. getD-set-other l j (off + i) v 0 (d i h))
+
+  pub part-set : (l : List ℕ) (i v : ℕ) → i < size → off + i < length l → part off size (set l (off + i) v) ≡ upd (part off size l) i v
+  part-set l i v h f = fun-ext (λ k. same? k i
+      (λ e. rw (e, upd-same (part off size l) i v) (part-in (set l (off + i) v) i h ∙ getD-set-same l (off + i) v 0 f))
+      (λ d. rw (upd-other (part off size l) i v k d) (below? k size
+      (λ b. part-in (set l (off + i) v) k b ∙ getD-set-other l (off + i) (off + k) v 0 (λ e. d (omega arith)) ∙ sym (part-in l k b))
+      (λ b. part-past (set l (off + i) v) k b ∙ sym (part-past l k b)))))
+
+  -- seen through g
+  pub part-view : {A : Type 0} (g : ℕ → A) (l : List ℕ) (i v : ℕ) → i < size → off + i < length l
+      → _≡_ {A = ℕ → A} (λ k. g (part off size (set l (off + i) v) k)) (upd (λ k. g (part off size l k)) i (g v))
+  part-view g l i v h f = fun-ext (λ k. rw (part-set l i v h f) (same? k i
+      (λ e. rw (e, upd-same (part off size l) i v, upd-same (λ k. g (part off size l k)) i (g v)))
+      (λ d. rw (upd-other (part off size l) i v k d, upd-other (λ k. g (part off size l k)) i (g v) k d))))
+
+-- ---- Queues
+
+module _ (m : ℕ) where
+  pub queue-in : (q : List ℕ) (k : ℕ) → k < m → queue-of m q k ≡ getD q (QUEUE + 2 * k) 0
+  unfolding queue-of
+  queue-in q k h = rw (lt-ltb k m h)
+
+  pub queue-past : (q : List ℕ) (k : ℕ) → m ≤ k → queue-of m q k ≡ 0
+  unfolding queue-of
+  queue-past q k h = rw (le-ltb k m h)
+
+  pub queue-x-in : (q : List ℕ) (k : ℕ) → k < m → queue-x-of m q k ≡ getD q (QUEUE + 2 * k + 1) 0
+  unfolding queue-x-of
+  queue-x-in q k h = rw (lt-ltb k m h)
+
+  pub queue-x-past : (q : List ℕ) (k : ℕ) → m ≤ k → queue-x-of m q k ≡ 0
+  unfolding queue-x-of
+  queue-x-past q k h = rw (le-ltb k m h)
+
+  -- two slices with the same queues
+  pub queue-same : (q q′ : List ℕ) → ((k : ℕ) → k < m → getD q′ (QUEUE + 2 * k) 0 ≡ getD q (QUEUE + 2 * k) 0) → queue-of m q′ ≡ queue-of m q
+  queue-same q q′ e = fun-ext (λ k. below? k m (λ h. queue-in q′ k h ∙ e k h ∙ sym (queue-in q k h)) (λ h. queue-past q′ k h ∙ sym (queue-past q k h)))
+
+  pub queue-x-same : (q q′ : List ℕ) → ((k : ℕ) → k < m → getD q′ (QUEUE + 2 * k + 1) 0 ≡ getD q (QUEUE + 2 * k + 1) 0) → queue-x-of m q′ ≡ queue-x-of m q
+  queue-x-same q q′ e = fun-ext (λ k. below? k m (λ h. queue-x-in q′ k h ∙ e k h ∙ sym (queue-x-in q k h)) (λ h. queue-x-past q′ k h ∙ sym (queue-x-past q k h)))
+
+-- ---- Rows of m
+
+module _ (m : ℕ) where
+  pub flat-in : (l : List ℕ) (t k : ℕ) → k < m → flat m l t k ≡ getD l (t * m + k) 0
+  unfolding flat
+  flat-in l t k h = rw (lt-ltb k m h)
+
+  pub flat-past : (l : List ℕ) (t k : ℕ) → m ≤ k → flat m l t k ≡ 0
+  unfolding flat
+  flat-past l t k h = rw (le-ltb k m h)
+
+  pub flat-set : (l : List ℕ) (t k v : ℕ) → k < m → t * m + k < length l → flat m (set l (t * m + k) v) ≡ upd2 (flat m l) t k v
+  flat-set l t k v h f = upd2-by (flat m (set l (t * m + k) v)) (flat m l) t k v
+      (flat-in (set l (t * m + k) v) t k h ∙ getD-set-same l (t * m + k) v 0 f)
+      (λ x y d. below? y m
+      (λ b. flat-in (set l (t * m + k) v) x y b ∙ getD-set-other l (t * m + k) (x * m + y) v 0 (λ e. let z : x ≡ t = cell-same m b h e in d z (same-column e z)) ∙ sym (flat-in l x y b))
+      (λ b. flat-past (set l (t * m + k) v) x y b ∙ sym (flat-past l x y b)))
     where
-      before : (q : ℕ) → q < r → take (size z q) (drop (off z q) (set b (off z r + i) v)) ≡ take (size z q) (drop (off z q) b)
-      before q l =
-          let y = off-below z q r l in
-          let e : off z r + i ≡ off z q + (off z r + i - off z q) = omega arith in
-          rw (e, drop-set-add (off z q) b (off z r + i - off z q) v) (take-set-le (size z q) (drop (off z q) b) (off z r + i - off z q) v (omega arith))
+      same-column : {x y : ℕ} → x * m + y ≡ t * m + k → x ≡ t → y ≡ k
+      same-column e z = let w = rw z at e in omega arith
 
-      after : (q : ℕ) → r < q → take (size z q) (drop (off z q) (set b (off z r + i) v)) ≡ take (size z q) (drop (off z q) b)
-      after q l = let y = off-below z r q l in rw (drop-set-lt (off z q) b (off z r + i) v (omega arith))
+-- ---- Sets
 
-pub parts-whole : (z b : List ℕ) → all-of z ≤ length b → Whole z (parts z b)
-unfolding parts
-parts-whole z b e = record {
-  all = λ r. below? r (length z)
-      (λ h. let y = off-below z r (length z) h in length-take-le (size z r) (drop (off z r) b) (rw (length-drop (off z r) b) (omega arith)))
-      (λ h. rw (past z r h));
-}
+module _ (m : ℕ) where
+  pub member-in : (l : List ℕ) (i k : ℕ) → k < m → member m l i k ≡ in-row l i k
+  unfolding member
+  member-in l i k h = rw (lt-ltb k m h)
 
--- a region's places are in the slice
-pub within : (z b : List ℕ) → Whole z (parts z b) → (r i : ℕ) → i < size z r → off z r + i < length b
-unfolding parts
-within z b w r i h =
-    let e : length (take (size z r) (drop (off z r) b)) ≡ size z r = w .all r in
-    let l = min-le-right (size z r) (length (drop (off z r) b)) in
-    let d = length-drop (off z r) b in
-    let k = length-take (size z r) (drop (off z r) b) in
-    omega arith
+  pub member-past : (l : List ℕ) (i k : ℕ) → m ≤ k → member m l i k ≡ false
+  unfolding member
+  member-past l i k h = rw (le-ltb k m h)
 
--- the same by a row's start
-module _ (z b : List ℕ) (r m t k : ℕ) {start : ℕ} (e : start ≡ off z r + t * m) (h : t * m + k < size z r) where
-  along : start + k ≡ off z r + (t * m + k)
-  along = omega arith
+  pub in-block : (k : ℕ) → k < m → k / 64 < blocks m
+  in-block k h = omega arith
 
-  pub row-get : getD b (start + k) 0 ≡ getD (parts z b r) (t * m + k) 0
-  row-get = rw along (parts-get z b r (t * m + k) h)
+  -- two slices with the same words in a row
+  pub member-same : (l l′ : List ℕ) (i k : ℕ) → ((j : ℕ) → j < blocks m → word l′ i j ≡ word l i j) → member m l′ i k ≡ member m l i k
+  unfolding in-row
+  member-same l l′ i k e = below? k m
+      (λ h. member-in l′ i k h ∙ ap (λ (x : ℕ). bit x (k % 64)) (e (k / 64) (in-block k h)) ∙ sym (member-in l i k h))
+      (λ h. member-past l′ i k h ∙ sym (member-past l i k h))
 
-  pub row-set : (v : ℕ) → parts z (set b (start + k) v) ≡ store (parts z b) r (t * m + k) v
-  row-set v = rw along (parts-set z b r (t * m + k) h v)
+  pub set-in : (r : ℕ) (l : List ℕ) (t k : ℕ) → t < 32 → in-set m r l t k ≡ member m l (r + t) k
+  unfolding in-set
+  set-in r l t k h = rw (lt-ltb t 32 h)
 
-  pub row-within : Whole z (parts z b) → start + k < length b
-  row-within w = rw along (within z b w r (t * m + k) h)
+  pub set-past : (r : ℕ) (l : List ℕ) (t k : ℕ) → 32 ≤ t → in-set m r l t k ≡ false
+  unfolding in-set
+  set-past r l t k h = rw (le-ltb t 32 h)
 
--- every region still has its size with a region of the same size in another's place
-pub whole-put : {z : List ℕ} {d : Parts} → Whole z d → (r : ℕ) (l : List ℕ) → length l ≡ size z r → Whole z (put d r l)
-whole-put w r l e = record { all = λ q. same? q r (λ y. rw (y, eq-eqb r r refl) e) (λ n. rw (ne-eqb q r n) (w .all q)) }
+  -- a slice with other words in one row alone, which is none of these
+  pub set-same : (r : ℕ) (l l′ : List ℕ) → ((t k : ℕ) → t < 32 → member m l′ (r + t) k ≡ member m l (r + t) k) → in-set m r l′ ≡ in-set m r l
+  set-same r l l′ e = fun-ext (λ t. fun-ext (λ k. below? t 32
+      (λ h. set-in r l′ t k h ∙ e t k h ∙ sym (set-in r l t k h))
+      (λ h. set-past r l′ t k h ∙ sym (set-past r l t k h))))
 
-pub whole-store : {z : List ℕ} {d : Parts} → Whole z d → (r i v : ℕ) → Whole z (store d r i v)
-whole-store {d = d} w r i v = whole-put w r (set (d r) i v) (rw length-set (w .all r))
-
--- a region put again
-pub put-same : (d : Parts) (r : ℕ) → d ≡ put d r (d r)
-put-same d r = fun-ext (λ q. same? q r (λ e. rw (e, eq-eqb r r refl)) (λ n. rw (ne-eqb q r n)))
-
-pub put-put : (d : Parts) (r : ℕ) (l m : List ℕ) → put (put d r l) r m ≡ put d r m
-put-put d r l m = fun-ext (λ q. same? q r (λ e. rw (e, eq-eqb r r refl)) (λ n. rw (ne-eqb q r n)))
-
--- a run of a region's places is stored, as a loop does it
-pub parts-fill : (z b : List ℕ) (r i : ℕ) (f : ℕ → ℕ) (n : ℕ) → i + n ≤ size z r → parts z (fill f (off z r + i) n b) ≡ put (parts z b) r (fill f i n (parts z b r))
-unfolding fill
-parts-fill z b r i f zero h = put-same (parts z b) r
-parts-fill z b r i f (suc n) h =
-    let e : off z r + i + n ≡ off z r + (i + n) = omega arith in
-    let s : parts z (set (fill f (off z r + i) n b) (off z r + i + n) (f n)) ≡ store (parts z (fill f (off z r + i) n b)) r (i + n) (f n) = rw e (parts-set z (fill f (off z r + i) n b) r (i + n) (omega arith) (f n)) in
-    s ∙ rw (parts-fill z b r i f n (omega arith), eq-eqb r r refl) (put-put (parts z b) r (fill f i n (parts z b r)) (set (fill f i n (parts z b r)) (i + n) (f n)))
+  pub owner-same : (l l′ : List ℕ) (n k : ℕ) → ((i : ℕ) → i < n → member m l′ (OWNED + i) k ≡ member m l (OWNED + i) k) → owner-in m l′ n k ≡ owner-in m l n k
+  unfolding owner-in
+  owner-same l l′ zero k e = refl
+  owner-same l l′ (suc n) k e = rw (e n (omega arith), owner-same l l′ n k (λ i h. e i (omega arith)))

@@ -5,46 +5,38 @@ use mathlib.Core.List.{List, []}
 use Rattle.rules.specs.Bytes.{Command}
 use Rattle.rules.specs.State.{Tally, State}
 use Rattle.rules.specs.Steps as rules
-use Rattle.state.specs.Parts.{bytes}
-use Rattle.state.specs.View.{view, no-tally, result-of, advanced}
-use Rattle.state.specs.Ready.{Fit}
+use Rattle.state.specs.View.{shown, no-tally, result-of, advanced}
+use Rattle.state.specs.Fit.{Fit}
 use Rattle.state.specs.Slices.{Slices, slices}
 use Rattle.state.specs.declared.Answer.{Answer}
-
--- the rules' state that they show, of m sheets
-abbrev pub shown : ℕ → Slices → Tally → State
-shown m x tally = view m (bytes m (x .bytes)) (x .value) (x .seen) (x .sheets) tally
 
 -- ---- What a command is lent, among whatever the other slices are
 
 abbrev pub Lent : Type 0
 Lent = Slices → Slices
 
--- the bytes alone; the lists beside them; a save's own contents; what a TAKE looks at; what an APPLY changes; all but the lists
+-- the bytes alone; sets and queues beside them; a save's own contents; what a TAKE looks at; what an APPLY changes
 abbrev pub own : List ℕ → Lent
-own b x = slices b (x .listed) (x .value) (x .seen) (x .sheets)
+own b x = slices b (x .sets) (x .queues) (x .value) (x .seen) (x .sheets)
 
-abbrev pub listing : (b listed : List ℕ) → Lent
-listing b listed x = slices b listed (x .value) (x .seen) (x .sheets)
+abbrev pub saving : (b s q : List ℕ) → Lent
+saving b s q x = slices b s q (x .value) (x .seen) (x .sheets)
 
-abbrev pub writing : (b value : List ℕ) → Lent
-writing b value x = slices b (x .listed) value (x .seen) (x .sheets)
+abbrev pub writing : (b s value : List ℕ) → Lent
+writing b s value x = slices b s (x .queues) value (x .seen) (x .sheets)
 
-abbrev pub taking : (b seen w : List ℕ) → Lent
-taking b seen w x = slices b (x .listed) (x .value) seen w
+abbrev pub taking : (b s q seen w : List ℕ) → Lent
+taking b s q seen w x = slices b s q (x .value) seen w
 
-abbrev pub applying : (b value w : List ℕ) → Lent
-applying b value w x = slices b (x .listed) value (x .seen) w
+abbrev pub applying : (b s q value w : List ℕ) → Lent
+applying b s q value w x = slices b s q value (x .seen) w
 
-abbrev pub reading : (b value seen w : List ℕ) → Lent
-reading b value seen w x = slices b (x .listed) value seen w
-
-abbrev pub all : (b listed value seen w : List ℕ) → Lent
-all b listed value seen w x = slices b listed value seen w
+abbrev pub all : (b s q value seen w : List ℕ) → Lent
+all b s q value seen w x = slices b s q value seen w
 
 -- the state as far as the lent slices show it, for a test that looks at no other
 abbrev pub seen-by : ℕ → Lent → State
-seen-by m f = shown m (f (slices [] [] [] [] [])) no-tally
+seen-by m f = shown m (f (slices [] [] [] [] [] [])) no-tally
 
 -- ---- What a command does
 
@@ -56,6 +48,6 @@ pub record Steps (before : Tally → State) (c : Command) (after : Tally → Sta
 abbrev pub Moves : ℕ → (before : Lent) → Command → (after : Lent) → Answer → Type 0
 Moves m before c after a = (x : Slices) → Steps (shown m (before x)) c (shown m (after x)) a
 
--- sizes and hints stand
+-- sizes and sets stand
 abbrev pub Keeps : ℕ → (before after : Lent) → Type 0
 Keeps m before after = (x : Slices) → Fit m (before x) → Fit m (after x)

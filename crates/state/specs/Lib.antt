@@ -1,9 +1,6 @@
-pub mod Parts
 pub mod Slices
 pub mod View
-pub mod Listed
-pub mod Ready
+pub mod Fit
 pub mod Lent
-pub mod Changes
+pub mod Stored
 pub mod Starts
-pub mod Fill

@@ -1,14 +1,16 @@
 -- The rules' state that the slices show, and the paper's values of each answer.
 use Prim.Native.Nat.{ℕ, zero, suc, _+_, _*_}
-use mathlib.Core.Bool.{Bool, not, _&&_, cond}
-use mathlib.Core.List.{List, [], _∷_, _++_}
-use lib.ListN.{getD, take}
+use mathlib.Core.Bool.{Bool, true, false, not, _&&_, cond}
+use mathlib.Core.List.{List, []}
+use lib.ListN.{getD, take, drop}
 use lib.Dec.{eqb, ltb, leb}
 use Rattle.rules.specs.Bytes.{Header}
-use Rattle.rules.specs.State.{Phase, unused, first, submitted, second, committed, dropped, Mark, absent, copied, written, Claim, unclaimed, shared, exclusive, Tally, State, claims, at}
+use Rattle.rules.specs.State.{Phase, unused, first, submitted, second, committed, dropped, Mark, absent, copied, written, Claim, unclaimed, shared, exclusive, Tally, State}
 use Rattle.rules.specs.Steps as rules
 use Rattle.rules.specs.Steps.{Result, answered, refused, counted, counted-first, counted-second}
-use Rattle.state.specs.Parts.{Parts, word, CONTENT, WCT, MARK, CLAIM, STANDING, OWNER, PHASE, FAILED, RUNS, LINE, LINED, MET, ORDER, PLACE, TAKEN, NODES, PLACED}
+use Rattle.rules.proofs.Places.{entries}
+use Rattle.sets.specs.Bit.{bit, in-row}
+use Rattle.state.specs.Slices.{Slices, slices}
 use Rattle.state.specs.declared.Rule.{Rule}
 use Rattle.state.specs.declared.Rule.the-variants.{XGranted, XWaiting, CounterBehind}
 use Rattle.state.specs.declared.Cause.{Cause}
@@ -17,7 +19,7 @@ use Rattle.state.specs.declared.Verdict.the-variants.{Valid, Invalid}
 use Rattle.state.specs.declared.Answer.{Answer}
 use Rattle.state.specs.declared.Answer.the-variants.{Accepted, Content, Took, Commits, CommitsLater, SecondRun, Recommits, Refused}
 
--- ---- Numbers as the rules' terms
+-- ---- Numbers and members as the rules' terms
 
 abbrev pub as-phase : ℕ → Phase
 as-phase zero = unused
@@ -31,80 +33,158 @@ as-phase (suc (suc (suc (suc (suc p))))) = dropped
 unfoldable pub out-of-phase : ℕ → ℕ
 out-of-phase p = cond (eqb p 0) 13 (cond (leb 4 p) 14 5)
 
-abbrev pub as-mark : ℕ → Mark
-as-mark zero = absent
-as-mark (suc zero) = copied
-as-mark (suc (suc m)) = written
+abbrev pub mark-of : (copied written : Bool) → Mark
+mark-of c true = written
+mark-of true false = copied
+mark-of false false = absent
 
-abbrev pub as-claim : ℕ → Claim
-as-claim zero = unclaimed
-as-claim (suc zero) = shared
-as-claim (suc (suc c)) = exclusive
+abbrev pub claim-of : (claimed x : Bool) → Claim
+claim-of c true = exclusive
+claim-of true false = shared
+claim-of false false = unclaimed
 
 abbrev pub set? : ℕ → Bool
 set? m = not (eqb m 0)
 
--- ---- Single numbers
+-- ---- Where they stand
 
-abbrev pub nodes : Parts → ℕ
-nodes d = getD (d NODES) 0 0
+-- the bytes: by save
+abbrev pub PHASE : ℕ
+PHASE = 0
 
--- how many places the order has, and how many saves stand in line
-abbrev pub placed : Parts → ℕ
-placed d = word (d PLACED) 0
+abbrev pub FAILED : ℕ
+FAILED = 32
 
-abbrev pub lined : Parts → ℕ
-lined d = getD (d LINED) 0 0
+abbrev pub RUNS : ℕ
+RUNS = 64
+
+abbrev pub NODES : ℕ
+NODES = 96
+
+abbrev pub ORDER : ℕ
+ORDER = 97
+
+-- the rows of sets: 32 for each of these, by save, and those of the nodes
+abbrev pub COPIED : ℕ
+COPIED = 0
+
+abbrev pub WRITTEN : ℕ
+WRITTEN = 32
+
+abbrev pub CLAIM : ℕ
+CLAIM = 64
+
+abbrev pub CLAIM-X : ℕ
+CLAIM-X = 96
+
+abbrev pub HELD : ℕ
+HELD = 128
+
+abbrev pub OWNED : ℕ
+OWNED = 160
+
+abbrev pub rows : ℕ
+rows = 168
+
+-- the numbers of places, and the sets of saves; the last of them by sheet, two each: its queue, and the X in it
+abbrev pub PLACE : ℕ
+PLACE = 0
+
+abbrev pub TAKEN : ℕ
+TAKEN = 32
+
+abbrev pub PLACED : ℕ
+PLACED = 40
+
+abbrev pub BEFORE : ℕ
+BEFORE = 41
+
+abbrev pub JOINED : ℕ
+JOINED = 73
+
+abbrev pub QUEUE : ℕ
+QUEUE = 74
+
+-- ---- Tables in slices
+
+-- the `size` numbers from `off` on; a number past them is 0, and not the next table's
+unfoldable pub part : (off size : ℕ) → List ℕ → ℕ → ℕ
+part off size l i = cond (ltb i size) (getD l (off + i) 0) 0
+
+-- a table by row and column, m to a row
+unfoldable pub flat : (m : ℕ) → List ℕ → ℕ → ℕ → ℕ
+flat m l t k = cond (ltb k m) (getD l (t * m + k) 0) 0
+
+-- sheet k is in the set of row i
+unfoldable pub member : (m : ℕ) → List ℕ → (i k : ℕ) → Bool
+member m l i k = ltb k m && in-row l i k
+
+-- sheet k is in save t's set
+unfoldable pub in-set : (m r : ℕ) → List ℕ → (t k : ℕ) → Bool
+in-set m r l t k = ltb t 32 && member m l (r + t) k
+
+-- the owner: the node, of n, in whose set the sheet is
+unfoldable pub owner-in : (m : ℕ) → List ℕ → (n k : ℕ) → ℕ
+owner-in m l zero k = 0
+owner-in m l (suc n) k = cond (member m l (OWNED + n) k) n (owner-in m l n k)
+
+-- ---- The state
+
+-- how many places the order has; the save at each
+abbrev pub placed : List ℕ → ℕ
+placed q = getD q PLACED 0
+
+abbrev pub order-in : List ℕ → List ℕ
+order-in b = drop ORDER b
 
 -- a save's last place
-abbrev pub place-in : Parts → ℕ → ℕ
-place-in d t = word (d PLACE) t
+abbrev pub place-in : List ℕ → ℕ → ℕ
+place-in q = part PLACE 32 q
 
--- ---- Tables
+-- sheet k's queue, and the X in it
+unfoldable pub queue-of : (m : ℕ) → List ℕ → ℕ → ℕ
+queue-of m q k = cond (ltb k m) (getD q (QUEUE + 2 * k) 0) 0
 
--- a table by row and column, m to a row: a column past the row is 0, and not the next row's
-unfoldable pub flat : ℕ → List ℕ → ℕ → ℕ → ℕ
-flat m l x y = cond (ltb y m) (getD l (x * m + y) 0) 0
+unfoldable pub queue-x-of : (m : ℕ) → List ℕ → ℕ → ℕ
+queue-x-of m q k = cond (ltb k m) (getD q (QUEUE + 2 * k + 1) 0) 0
+
+-- save u has an entry at sheet k; it is an X
+abbrev pub queued : (m : ℕ) → List ℕ → (k u : ℕ) → Bool
+queued m q k u = bit (queue-of m q k) u
+
+abbrev pub queued-x : (m : ℕ) → List ℕ → (k u : ℕ) → Bool
+queued-x m q k u = bit (queue-x-of m q k) u
+
+abbrev pub header-of : ℕ → (b s : List ℕ) → Header
+header-of m b s = record { nodes = getD b NODES 0; sheets = m; owner = owner-in m s 8 }
 
 abbrev pub claim-in : ℕ → List ℕ → ℕ → ℕ → Claim
-claim-in m claim t k = as-claim (flat m claim t k)
-
--- save t has an entry at sheet k of node n
-unfoldable pub entered : (m : ℕ) → (standing claim : List ℕ) → (n k t : ℕ) → Bool
-entered m standing claim n k t = set? (getD standing (n * 32 + t) 0) && claims (claim-in m claim t k)
-
--- the saves of test f among the first p of the line
-unfoldable pub waiting : (line : List ℕ) → (ℕ → Bool) → (p : ℕ) → List ℕ
-waiting line f zero = []
-waiting line f (suc p) = cond (f (at line p)) (waiting line f p ++ at line p ∷ []) (waiting line f p)
-
--- the queue of sheet k of node n, which has taken the first `met` saves of the line
-abbrev pub queue-in : (m : ℕ) → (line standing claim : List ℕ) → (n k met : ℕ) → List ℕ
-queue-in m line standing claim n k met = waiting line (entered m standing claim n k) met
-
-abbrev pub header-of : ℕ → ℕ → List ℕ → Header
-header-of n m owner = record { nodes = n; sheets = m; owner = λ k. getD owner k 0 }
+claim-in m s t k = claim-of (in-set m CLAIM s t k) (in-set m CLAIM-X s t k)
 
 -- the state of m sheets
-abbrev pub view : ℕ → Parts → (value seen w : List ℕ) → Tally → State
-view m d value seen w tally = record {
-  header = header-of (nodes d) m (d OWNER);
-  sheet = λ k. record { content = flat m w CONTENT k; wct = flat m w WCT k };
-  queue = λ k. queue-in m (d LINE) (d STANDING) (d CLAIM) (getD (d OWNER) k 0) k (getD (d MET) (getD (d OWNER) k 0) 0);
-  phase = λ t. as-phase (getD (d PHASE) t 0);
-  mark = λ t k. as-mark (flat m (d MARK) t k);
-  copy = λ t k. record { content = flat m value t k; wct = flat m seen t k };
-  claim = claim-in m (d CLAIM);
-  failed = λ t. set? (getD (d FAILED) t 0);
-  runs = λ t. getD (d RUNS) t 0;
-  order = take (placed d) (d ORDER);
-  place = place-in d;
-  taken = λ n. word (d TAKEN) n;
+abbrev pub shown : ℕ → Slices → Tally → State
+shown m x tally = record {
+  header = header-of m (x .bytes) (x .sets);
+  sheet = λ k. record { content = part 0 m (x .sheets) k; wct = part m m (x .sheets) k };
+  queue = λ k. entries (order-in (x .bytes)) (place-in (x .queues)) (queued m (x .queues) k) (placed (x .queues));
+  phase = λ t. as-phase (part PHASE 32 (x .bytes) t);
+  mark = λ t k. mark-of (in-set m COPIED (x .sets) t k) (in-set m WRITTEN (x .sets) t k);
+  copy = λ t k. record { content = flat m (x .value) t k; wct = flat m (x .seen) t k };
+  claim = claim-in m (x .sets);
+  failed = λ t. set? (part FAILED 32 (x .bytes) t);
+  runs = part RUNS 32 (x .bytes);
+  order = take (placed (x .queues)) (order-in (x .bytes));
+  place = place-in (x .queues);
+  taken = part TAKEN 8 (x .queues);
   tally = tally;
 }
 
 abbrev pub no-tally : Tally
 no-tally = record { accepted = 0; from-first = 0; from-second = 0 }
+
+-- the state as far as bytes, sets and queues show it
+abbrev pub bare : ℕ → (b s q : List ℕ) → State
+bare m b s q = shown m (slices b s q [] [] []) no-tally
 
 -- ---- Answers
 

@@ -15,7 +15,7 @@ use Rattle.rules.proofs.Sessions.{Final, final}
 use Rattle.text.specs.Wrote.{Wrote}
 use Rattle.text.proofs.Writing.{wrote-as, wrote-front}
 use Rattle.state.specs.Slices.{Slices}
-use Rattle.state.specs.Lent.{shown}
+use Rattle.state.specs.View.{shown}
 use Rattle.tally.specs.Figures.{figures}
 use Rattle.session.specs.declared.Walked.{Walked}
 use Rattle.session.specs.Carried.{Carried}
@@ -50,17 +50,8 @@ text-short m h w = omega (arith, w .short)
 -- ---- The walk's state
 
 module _ {b : List ℕ} (o : opens b ≡ true) {m : ℕ} {x : Slices} {r : Walked} (v : Carried b m x r) where
-  pub shows : m ≤ max-sheets → Shows m (x .bytes) (x .value) (x .seen) (x .sheets)
-  shows h = record {
-    ready = v .ready;
-    trimmed = v .fit .hints .trimmed;
-    lined = v .fit .hints .lined;
-    capped = v .fit .hints .capped;
-    values = v .fit .value;
-    seens = v .fit .seen;
-    sheets = v .fit .sheets;
-    few = h;
-  }
+  pub shows : m ≤ max-sheets → Shows m x
+  shows h = record { ready = v .ready; values = v .fit .value; seens = v .fit .seen; stored = v .fit .sheets; few = h }
 
   pub called : (room : List ℕ) → fitted (state-text (shown m x (figures (r .tally)))) room ≡ state-call b room
   unfolding state-call final

@@ -1,6 +1,5 @@
 // The state after a session's accepted commands, as text into a lent room: the call that shows it.
 ghost use mathlib.Core.Path.{_≡_};
-ghost use mathlib.Core.List.{[]};
 ghost use Prim.Native.Nat.{_≤_};
 ghost use lib.ListN.{length};
 ghost use Rattle.rules.specs.Sizes.{max-state};
@@ -10,7 +9,7 @@ ghost use Rattle.codes.specs.Decoding.{outcome-in};
 ghost use Rattle.wire.specs.Meaning.{opened};
 ghost use Rattle.wire.specs.declared.Opened.the-variants.{Header};
 ghost use Rattle.state.specs.Slices.{slices};
-ghost use Rattle.state.specs.Lent.{shown};
+ghost use Rattle.state.specs.View.{shown};
 ghost use Rattle.tally.specs.Figures.{figures};
 ghost use Rattle.showing.specs.Shows.{Shows};
 ghost use Rattle.states.specs.Short.{ShortText};
@@ -25,32 +24,34 @@ use wire::Opened;
 fn fill(
     room: &mut [u8],
     b: &[u8],
+    s: &[u64],
+    q: &[u64],
     value: &[u32],
     seen: &[u16],
     w: &[u32],
     m: usize,
     tally: Tally,
 ) -> Placed
-    requires { ⌜ Shows m (now b) (now value) (now seen) (now w) ⌝ }
+    requires { ⌜ Shows m (slices (now b) (now s) (now q) (now value) (now seen) (now w)) ⌝ }
     ensures { λ r. ⌜
         record { outcome = outcome-of r; room = now (room .exit) }
-        ≡ fitted (state-text (shown m (slices (now (b .entry)) [] (now (value .entry)) (now (seen .entry)) (now (w .entry))) (figures tally))) (now (room .entry))
+        ≡ fitted (state-text (shown m (slices (now (b .entry)) (now (s .entry)) (now (q .entry)) (now (value .entry)) (now (seen .entry)) (now (w .entry))) (figures tally))) (now (room .entry))
         ⌝ }
     ensures small { λ r. ⌜ Small r ⌝ }
     ensures short { λ _. ⌜
-        length (state-text (shown m (slices (now (b .entry)) [] (now (value .entry)) (now (seen .entry)) (now (w .entry))) (figures tally))) ≤ max-state
+        length (state-text (shown m (slices (now (b .entry)) (now (s .entry)) (now (q .entry)) (now (value .entry)) (now (seen .entry)) (now (w .entry))) (figures tally))) ≤ max-state
         ⌝ }
 {
     if MAX_STATE <= room.len() {
-        let e = showing::text(room, b, value, seen, w, m, tally);
+        let e = showing::text(room, b, s, q, value, seen, w, m, tally);
         return Placed::Whole(e);
     }
     let mut none = [0u8; 0];
-    let n = showing::text(&mut none, b, value, seen, w, m, tally);
+    let n = showing::text(&mut none, b, s, q, value, seen, w, m, tally);
     if room.len() < n {
         return Placed::TooShort(n);
     }
-    let e = showing::text(room, b, value, seen, w, m, tally);
+    let e = showing::text(room, b, s, q, value, seen, w, m, tally);
     Placed::Whole(e)
 }
 
@@ -62,24 +63,35 @@ fn show(session: &[u8], room: &mut [u8], nodes: u8, sheets: u16) -> Placed
     ensures short { λ _. ⌜ ShortText (now (session .entry)) ⌝ }
 {
     let mut b = [0u8; Session::BYTES];
-    let mut listed = [0u16; Session::LISTS];
+    let mut s = [0u64; Session::SETS];
+    let mut q = [0u64; Session::QUEUES];
     let mut value = [0u32; Session::COPIES];
     let mut seen = [0u16; Session::COPIES];
     let mut w = [0u32; Session::STORE];
     let m = sheets as usize;
     let end = 2 + m;
-    Session::fresh(&mut b, &listed, &value, &seen, &w, nodes, &session[2..end]);
+    Session::fresh(
+        &mut b,
+        &mut s,
+        &q,
+        &value,
+        &seen,
+        &w,
+        nodes,
+        &session[2..end],
+    );
     let r = session::walk(
         session,
         &mut b,
-        &mut listed,
+        &mut s,
+        &mut q,
         &mut value,
         &mut seen,
         &mut w,
         m,
     );
     let t = r.tally;
-    fill(room, &b, &value, &seen, &w, m, t)
+    fill(room, &b, &s, &q, &value, &seen, &w, m, t)
 }
 
 // Writes the state after the session's accepted commands, as text: how many bytes it has, or a refusal, which writes nothing.

@@ -2,7 +2,7 @@
 use mathlib.Core.Path.{_≡_, refl, sym, _∙_}
 use mathlib.Core.List.{List, [], _∷_}
 use mathlib.Core.Option.{Option, none, some}
-use Prim.Native.Nat.{ℕ, zero, suc, _-_, _≤_, _<_}
+use Prim.Native.Nat.{ℕ, zero, suc, _+_, _-_, _≤_, _<_}
 use native.Mathlib.Nat.{zero-add}
 use native.Mathlib.Omega.{arith}
 use borrow.Author.Tests.{lt-ltb, le-ltb, eqb-true}
@@ -11,7 +11,7 @@ use lib.ListN.{length, getD, take, drop, length-drop}
 use lib.Seq.{take-all, getD-drop}
 use Rattle.rules.specs.Bytes.{Form, Front, unknown, cut, whole, Command, Begin, form-of, commands, widths, values, big-endian, front-by, front}
 use Rattle.rules.proofs.Table.{bool}
-use Rattle.wire.specs.Meaning.{front-in, width-of, operand-bytes, contents}
+use Rattle.wire.specs.Meaning.{front-in, width-of, operand-bytes, shown-in, contents}
 
 -- what `&s[a..]` lends
 pub rest : (s : List ℕ) (a : ℕ) → take (length s - a) (drop a s) ≡ drop a s
@@ -87,7 +87,7 @@ not-above : (w : ℕ) → (0 < w → ⊥) → 0 ≡ w
 not-above zero n = refl
 not-above (suc w) n = absurd (n (omega arith))
 
-no-operands : (b : ℕ) → Not-to b 8 → 0 ≡ operand-bytes b
+pub no-operands : (b : ℕ) → Not-to b 8 → 0 ≡ operand-bytes b
 no-operands b n =
     not-above (operand-bytes b) (λ h.
     let k = known b h in
@@ -142,3 +142,20 @@ rest-end (b ∷ bs) e = absurd (omega arith)
 
 pub rest-whole : (s : List ℕ) (f : Option Front) → (length s ≡ 0 → ⊥) → f ≡ some (front (getD s 0 0) (take (length s - 1) (drop 1 s))) → f ≡ front-in s
 rest-whole s f n e = e ∙ rw (front-some s n, rest s 1)
+
+-- ---- What is shown
+
+module _ (s : List ℕ) where
+  pub shown-none : length s ≡ 0 → 0 ≡ shown-in (front-in s) (length s)
+  shown-none e = rw (sym (rest-end s e))
+
+  module _ (w : ℕ) (some : length s ≡ 0 → ⊥) (e : w ≡ operand-bytes (getD s 0 0)) where
+    pub shown-unknown : w ≡ 0 → 1 ≡ shown-in (front-in s) (length s)
+    shown-unknown z = rw (front-some s some, front-unknown (getD s 0 0) (drop 1 s) (sym e ∙ z))
+
+    pub shown-cut : length s ≤ w → length s ≡ shown-in (front-in s) (length s)
+    shown-cut h = rw (front-some s some, front-cut (getD s 0 0) (drop 1 s) (rw (length-drop 1 s, ← e) (let n = some in omega arith)))
+
+    pub shown-whole : 0 < w → w < length s → 1 + w ≡ shown-in (front-in s) (length s)
+    unfolding operand-bytes
+    shown-whole p h = rw (front-some s some, whole-by (form-of (getD s 0 0) commands) (drop 1 s) (rw e at p) (rw (length-drop 1 s, ← e) (omega arith)), ← e) (omega arith)

@@ -13,7 +13,7 @@ use Rattle.rules.specs.Bytes.{Command, Form, Front, unknown, cut, whole, widths
 use Rattle.rules.proofs.Table.{bool}
 use Rattle.rules.proofs.Writing.{in-table}
 use Rattle.rules.proofs.Answers.{skip}
-use Rattle.wire.specs.Meaning.{front-in}
+use Rattle.wire.specs.Meaning.{front-in, shown-in}
 
 -- a whole command has its operands
 abbrev Within : ℕ → Front → Type 0
@@ -58,6 +58,16 @@ list-fits c w (b ∷ bs) e =
     let f : front b bs ≡ whole c w = cc in
     let h : w ≤ length bs = rw f at (within-by (form-of b commands) bs) in
     omega arith
+
+-- no more is shown than is left
+pub shown-few : (l : List ℕ) → shown-in (front-in l) (length l) ≤ length l
+shown-few [] = omega arith
+shown-few (b ∷ bs) = by (front b bs) refl
+  where
+    by : (f : Front) → front b bs ≡ f → shown-in (some f) (suc (length bs)) ≤ suc (length bs)
+    by unknown e = omega arith
+    by cut e = omega arith
+    by (whole c w) e = let z = list-fits c w (b ∷ bs) (ap some e) in omega arith
 
 -- ---- Session b at offset p
 

@@ -1,5 +1,5 @@
 -- What the reader's types mean in the rules.
-use Prim.Native.Nat.{ℕ}
+use Prim.Native.Nat.{ℕ, suc, _-_}
 use mathlib.Core.Bool.{cond}
 use mathlib.Core.List.{List, [], _∷_}
 use mathlib.Core.Option.{Option, none, some}
@@ -24,7 +24,7 @@ command-of (GiveUp t) = rules.GiveUp t
 -- ---- The front of the rest of a session: none where nothing is left
 
 abbrev pub front-of : Next → Option rules.Front
-front-of (Step c w) = some (rules.whole (command-of c) w)
+front-of (Step c z) = some (rules.whole (command-of c) (z - 1))
 front-of Unknown = some rules.unknown
 front-of Cut = some rules.cut
 front-of End = none
@@ -32,6 +32,13 @@ front-of End = none
 abbrev pub front-in : List ℕ → Option rules.Front
 front-in [] = none
 front-in (b ∷ bs) = some (rules.front b bs)
+
+-- how many of the n bytes that are left are shown where a run stops at it: the byte that is no command, what is left of one cut short, or the whole command
+abbrev pub shown-in : Option rules.Front → (n : ℕ) → ℕ
+shown-in none n = 0
+shown-in (some rules.unknown) n = 1
+shown-in (some rules.cut) n = n
+shown-in (some (rules.whole c w)) n = suc w
 
 -- 0 where there is no such form
 abbrev pub width-of : Option rules.Form → ℕ

@@ -6,7 +6,7 @@ ghost use lib.ListN.{length};
 ghost use lib.Dec.{ltb};
 ghost use Rattle.rules.specs.Table.{all};
 ghost use Rattle.rules.specs.Bytes as rules;
-ghost use Rattle.wire.specs.Meaning.{front-of, front-in, contents, write-of, opened};
+ghost use Rattle.wire.specs.Meaning.{front-of, front-in, contents, write-of, opened, operand-bytes, shown-in};
 use limits::MAX_SESSION;
 
 // The limits of a header's counts, in their types.
@@ -14,12 +14,12 @@ const MAX_NODES: u8 = limits::MAX_NODES as u8;
 
 const MAX_SHEETS: u16 = limits::MAX_SHEETS as u16;
 
-// A command with its operands. A sheet number, one byte in a session, has 16 bits from here on. WRITE's content stands before its sheet: a
-// command of eight bytes would be moved as one number, and taken apart again in every arm of a step.
+// A command with its operands. A sheet number, one byte in a session, is an index from here on. With WRITE's content before its sheet no two fields
+// overlap: those that do are packed and taken apart again at every command.
 pub enum Command {
     Begin(u8),
-    Read(u8, u16),
-    Write(u8, u32, u16),
+    Read(u8, usize),
+    Write(u8, u32, usize),
     Submit(u8),
     Take(u8),
     Decide(u8),
@@ -27,8 +27,7 @@ pub enum Command {
     GiveUp(u8),
 }
 
-// What stands at the front of the rest of a session: a command with the number of its operand bytes, a byte that is no
-// command, operands cut short, or nothing.
+// What stands at the front of the rest of a session: a command with the number of its bytes, a byte that is no command, operands cut short, or nothing.
 pub enum Next {
     Step(Command, usize),
     Unknown,
@@ -54,7 +53,7 @@ fn write(s: &[u8]) -> Command
     requires { ⌜ 6 ≤ length (now s) ⌝ }
     ensures { λ r. ⌜ r ≡ write-of (now (s .entry)) ⌝ }
 {
-    let k = s[1] as u16;
+    let k = s[1] as usize;
     Command::Write(s[0], content(s[2], s[3], s[4], s[5]), k)
 }
 
@@ -68,49 +67,49 @@ fn decoded(b: u8, s: &[u8]) -> Next
             if s.len() < 1 {
                 return Next::Cut;
             }
-            Next::Step(Command::Begin(s[0]), 1)
+            Next::Step(Command::Begin(s[0]), 2)
         }
         2 => {
             if s.len() < 2 {
                 return Next::Cut;
             }
-            Next::Step(Command::Read(s[0], s[1] as u16), 2)
+            Next::Step(Command::Read(s[0], s[1] as usize), 3)
         }
         3 => {
             if s.len() < 6 {
                 return Next::Cut;
             }
-            Next::Step(write(s), 6)
+            Next::Step(write(s), 7)
         }
         4 => {
             if s.len() < 1 {
                 return Next::Cut;
             }
-            Next::Step(Command::Submit(s[0]), 1)
+            Next::Step(Command::Submit(s[0]), 2)
         }
         5 => {
             if s.len() < 1 {
                 return Next::Cut;
             }
-            Next::Step(Command::Take(s[0]), 1)
+            Next::Step(Command::Take(s[0]), 2)
         }
         6 => {
             if s.len() < 1 {
                 return Next::Cut;
             }
-            Next::Step(Command::Decide(s[0]), 1)
+            Next::Step(Command::Decide(s[0]), 2)
         }
         7 => {
             if s.len() < 2 {
                 return Next::Cut;
             }
-            Next::Step(Command::Apply(s[0], s[1]), 2)
+            Next::Step(Command::Apply(s[0], s[1]), 3)
         }
         8 => {
             if s.len() < 1 {
                 return Next::Cut;
             }
-            Next::Step(Command::GiveUp(s[0]), 1)
+            Next::Step(Command::GiveUp(s[0]), 2)
         }
         _ => Next::Unknown,
     }
@@ -124,6 +123,41 @@ pub fn read_next(rest: &[u8]) -> Next
         return Next::End;
     }
     decoded(rest[0], &rest[1..])
+}
+
+// How many operand bytes a command byte asks for, 0 where it is no command.
+fn operands(b: u8) -> usize
+    ensures { λ r. ⌜ r ≡ operand-bytes b ⌝ }
+{
+    match b {
+        1 => 1,
+        2 => 2,
+        3 => 6,
+        4 => 1,
+        5 => 1,
+        6 => 1,
+        7 => 2,
+        8 => 1,
+        _ => 0,
+    }
+}
+
+// How many bytes are shown where a run stops at the front of the rest of a session. It is asked once, at the end: carried along with each command
+// it would cost a twentieth of the run.
+pub fn shown(rest: &[u8]) -> usize
+    ensures { λ r. ⌜ r ≡ shown-in (front-in (now (rest .entry))) (length (now (rest .entry))) ⌝ }
+{
+    if rest.len() == 0 {
+        return 0;
+    }
+    let w = operands(rest[0]);
+    if w == 0 {
+        return 1;
+    }
+    if rest.len() <= w {
+        return rest.len();
+    }
+    1 + w
 }
 
 // A byte of the session, 0 beyond its end.

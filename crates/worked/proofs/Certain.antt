@@ -1,61 +1,60 @@
--- The worked session's states: antt computes at each what a step may rely on, and a step leads from one to the next.
-use Prim.Native.Nat.{ℕ, _+_, _<_}
+-- The worked session's states: what a step may rely on holds of each, as of every state that commands lead to, and a step leads from one to the next.
+use Prim.Native.Nat.{ℕ, zero, suc, _+_, _≤_, _<_}
 use mathlib.Core.Path.{_≡_, refl, sym, ap, subst, _∙_}
-use mathlib.Core.Bool.{Bool, true, not, _&&_, _||_}
+use mathlib.Core.Bool.{Bool, true}
+use mathlib.Core.List.{[], _∷_}
 use native.Mathlib.Numerals.{add-one}
-use lib.ListN.{length}
-use lib.Dec.{eqb, leb, ltb}
-use borrow.Author.Tests.{ltb-true, leb-true, eqb-true, not-true}
+use native.Mathlib.Omega.{arith}
+use lib.ListN.{getD}
+use lib.Dec.{leb}
+use borrow.Author.Tests.{leb-true}
 use Rattle.rules.specs.Table.{upd, upd2, row, all, any}
+use Rattle.rules.specs.Sizes.{max-commands}
 use Rattle.rules.specs.Bytes.{Command}
-use Rattle.rules.specs.State.{Tally, State, is-first, is-second, fresh, wide-by, at}
-use Rattle.rules.specs.Steps.{x-on, step}
-use Rattle.rules.proofs.Table.{all-at, and-l, and-r}
-use Rattle.state.specs.Parts.{most-places}
+use Rattle.rules.specs.State.{Tally, State, fresh, wide-by}
+use Rattle.rules.specs.Steps.{x-on, Checked, pass, refuse, check, step-by, step}
+use Rattle.rules.proofs.Table.{all-at}
+use Rattle.rules.proofs.Accepted.{same-header}
+use Rattle.rules.proofs.Reached.{Reached, reached-fresh, reached-step}
 use Rattle.state.specs.declared.Answer.{Answer}
 use Rattle.state.specs.View.{advanced}
 use Rattle.state.specs.Lent.{Steps}
-use Rattle.state.specs.Ready.{Known}
+use Rattle.state.specs.Fit.{Known}
+use Rattle.state.proofs.Reaching as reaching
 use Rattle.state.proofs.Steps.{state-stepped}
-use Rattle.worked.specs.Worked.{command-at, state-after}
+use Rattle.worked.specs.Worked.{header, command-at, state-after}
 
--- a test that antt computes at every state
-once-each : (f : State → Bool) → all 17 (λ n. f (state-after n)) ≡ true → (n : ℕ) → n < 17 → f (state-after n) ≡ true
-once-each f e = all-at 17 (λ n. f (state-after n)) e
+reached-after : (n : ℕ) → Reached (state-after n)
+unfolding state-after
+reached-after zero = reached-fresh header
+reached-after (suc n) = reached-step (state-after n) (command-at n) (reached-after n)
 
--- and at every number below a bound there
-each : (bound : State → ℕ) (f : State → ℕ → Bool) → all 17 (λ n. all (bound (state-after n)) (f (state-after n))) ≡ true
-    → (n : ℕ) → n < 17 → (i : ℕ) → i < bound (state-after n) → f (state-after n) i ≡ true
-each bound f e n h = all-at (bound (state-after n)) (f (state-after n)) (all-at 17 (λ m. all (bound (state-after m)) (f (state-after m))) e n h)
+-- the header stands
+header-on : (s : State) (c : Command) (x : Checked) → step-by x s c .state .header ≡ s .header
+header-on s c pass = same-header s c
+header-on s c (refuse n) = refl
 
--- save t has a place
-abbrev stands-at : State → ℕ → Bool
-stands-at s t = ltb (s .place t) (length (s .order)) && eqb (at (s .order) (s .place t)) t
+header-after : (n : ℕ) → state-after n .header ≡ header
+unfolding state-after fresh
+header-after zero = refl
+header-after (suc n) = header-on (state-after n) (command-at n) (check (state-after n) (command-at n)) ∙ header-after n
 
-placed : (a b : Bool) → a ≡ true → (not a || b) ≡ true → b ≡ true
-placed a b e y = rw e at y
+pub owner-small : (k : ℕ) → getD (0 ∷ 1 ∷ []) k 0 < 8
+owner-small zero = omega arith
+owner-small (suc zero) = omega arith
+owner-small (suc (suc k)) = omega arith
+
+-- antt computes how many commands were accepted
+accepted-few : (n : ℕ) → n < 17 → state-after n .tally .accepted ≤ max-commands
+unfolding all any upd upd2 row wide-by x-on fresh state-after
+accepted-few n h = leb-true (state-after n .tally .accepted) max-commands (all-at 17 (λ n. leb (state-after n .tally .accepted) max-commands) refl n h)
 
 module _ (n : ℕ) (h : n < 17) where
-  abbrev s : State
-  s = state-after n
-
   pub known-after : Known (state-after n)
-  unfolding all any upd upd2 row wide-by x-on fresh state-after
-  known-after = record {
-    nodes8 = leb-true (s .header .nodes) 8 (once-each (λ s. leb (s .header .nodes) 8) refl n h);
-    sheets16 = ltb-true (s .header .sheets) 65536 (once-each (λ s. ltb (s .header .sheets) 65536) refl n h);
-    owners = λ k l. ltb-true (s .header .owner k) 8 (each (λ s. s .header .sheets) (λ s k. ltb (s .header .owner k) 8) refl n h k l);
-    takens = λ m l. leb-true (s .taken m) (length (s .order)) (each (λ s. 8) (λ s m. leb (s .taken m) (length (s .order))) refl n h m l);
-    small = λ q l. ltb-true (at (s .order) q) 32 (each (λ s. length (s .order)) (λ s q. ltb (at (s .order) q) 32) refl n h q l);
-    joined = λ q l. not-true (is-first (s .phase (at (s .order) q))) (each (λ s. length (s .order)) (λ s q. not (is-first (s .phase (at (s .order) q)))) refl n h q l);
-    stands = λ t l e. let y = placed (is-second (s .phase t)) (stands-at s t) e (each (λ s. 32) (λ s t. not (is-second (s .phase t)) || stands-at s t) refl n h t l) in (
-      ltb-true (s .place t) (length (s .order)) (and-l (ltb (s .place t) (length (s .order))) (eqb (at (s .order) (s .place t)) t) y),
-      eqb-true (at (s .order) (s .place t)) t (and-r (ltb (s .place t) (length (s .order))) (eqb (at (s .order) (s .place t)) t) y),
-    );
-    room = λ t l f. ltb-true (length (s .order)) most-places (once-each (λ s. ltb (length (s .order)) most-places) refl n h);
-    runs = λ t l. ltb-true (s .runs t) 255 (each (λ s. 32) (λ s t. ltb (s .runs t) 255) refl n h t l);
-    rises = λ k l. ltb-true (s .sheet k .wct) 65535 (each (λ s. s .header .sheets) (λ s k. ltb (s .sheet k .wct) 65535) refl n h k l);
-  }
+  known-after = reaching.known (state-after n) (reached-after n) (rw (header-after n) (omega arith)) (rw (header-after n) (omega arith)) (λ k. rw (header-after n) (owner-small k)) (accepted-few n h)
+
+  pub rises-after : (k : ℕ) → state-after n .sheet k .wct < 65535
+  rises-after = reaching.rises (state-after n) (reached-after n) (rw (header-after n) (omega arith)) (rw (header-after n) (omega arith)) (λ k. rw (header-after n) (owner-small k)) (accepted-few n h)
 
 -- one step on
 pub onward : (before after : Tally → State) (a : Answer) (n : ℕ) (c : Command) → ((tally : Tally) → after tally .tally ≡ tally)

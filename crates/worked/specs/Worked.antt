@@ -5,7 +5,7 @@ use lib.ListN.{getD}
 use Rattle.rules.specs.Bytes.{Header, Command, Begin, Read, Write, Submit, Take, Decide, Apply, GiveUp}
 use Rattle.rules.specs.State.{State, fresh}
 use Rattle.rules.specs.Steps.{step}
-use Rattle.state.specs.View.{header-of}
+use Rattle.state.specs.Starts.{header-by}
 
 abbrev commands : List Command
 commands =
@@ -17,7 +17,7 @@ command-at i = getD commands i (GiveUp 0)
 
 -- sheet 0 stands at node 0, sheet 1 at node 1
 abbrev pub header : Header
-header = header-of 2 2 (0 ∷ 1 ∷ [])
+header = header-by 2 (0 ∷ 1 ∷ [])
 
 -- the state after n commands
 unfoldable pub state-after : ℕ → State

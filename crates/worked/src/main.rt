@@ -41,13 +41,13 @@ fn say(text: &[u8]) {
     io::write_all(STDOUT_FILENO, text);
 }
 
-fn number(n: u32) {
-    io::print_decimal(STDOUT_FILENO, n as u64);
+fn number(n: u64) {
+    io::print_decimal(STDOUT_FILENO, n);
 }
 
 fn print_cause(cause: Cause) {
     say(b" invalid ");
-    number(cause.sheet as u32);
+    number(cause.sheet as u64);
     let rule = cause.rule;
     match rule {
         Rule::XGranted => say(b" granted\n"),
@@ -67,11 +67,11 @@ fn print(a: Answer) {
     match a {
         Answer::Accepted => say(b"accepted\n"),
         Answer::Content(v) => {
-            number(v);
+            number(v as u64);
             say(b"\n");
         }
         Answer::Took(t, v) => {
-            number(t as u32);
+            number(t as u64);
             print_verdict(v);
         }
         Answer::Commits => say(b"commits\n"),
@@ -80,7 +80,7 @@ fn print(a: Answer) {
         Answer::Recommits => say(b"accepted\n"),
         Answer::Refused(n) => {
             say(b"refused ");
-            number(n as u32);
+            number(n as u64);
             say(b"\n");
         }
     }
@@ -89,16 +89,17 @@ fn print(a: Answer) {
 // Sheet 0 stands at node 0, sheet 1 at node 1.
 fn run() {
     let mut b = [0u8; Session::BYTES];
-    let mut listed = [0u16; Session::LISTS];
+    let mut s = [0u64; Session::SETS];
+    let mut q = [0u64; Session::QUEUES];
     let mut value = [0u32; Session::COPIES];
     let mut seen = [0u16; Session::COPIES];
     let mut w = [0u32; Session::STORE];
     let owners: [u8; 2] = [0, 1];
-    Session::fresh(&mut b, &listed, &value, &seen, &w, 2, &owners);
+    Session::fresh(&mut b, &mut s, &q, &value, &seen, &w, 2, &owners);
     let mut i: usize = 0;
     while i < 17 {
         let c = command(i);
-        let a = engine::step(&mut b, &mut listed, &mut value, &mut seen, &mut w, 2, c);
+        let a = engine::step(&mut b, &mut s, &mut q, &mut value, &mut seen, &mut w, 2, c);
         print(a);
         i += 1;
     }

@@ -1,9 +1,10 @@
--- The number is stored behind the others.
+-- The number is stored behind the others, where the room goes so far.
 use mathlib.Core.Path.{refl, sym, ap, _∙_}
 use mathlib.Core.List.{[], _∷_}
 use native.Mathlib.Omega.{arith}
-use lib.ListN.{set}
-use Rattle.codes.specs.Decoding.{answer-of}
+use Rattle.rules.specs.Sizes.{max-commands}
+use Rattle.clipped.proofs.Laws.{past-end}
+use Rattle.answers.proofs.Passing.{one-told}
 use borrow.Author.Needs.{needs}
 use Rattle.answers.proofs.tell.Statement.{statement}
 use Rattle.answers.proofs.tell.Tie as tie
@@ -11,27 +12,26 @@ use Rattle.answers.proofs.tell.Tie as tie
 reply-code-requires : tie.Need-reply-code-requires
 reply-code-requires c κs = search needs
 
-mul-list : tie.Need-mul-list
-mul-list c = search needs
-
-slice-write-list : tie.Need-slice-write-list
-slice-write-list c = search needs
-
 add-result : tie.Need-add-result
 add-result c = search needs
+
+returns : tie.Need-returns
+returns c = one-told (c .before .reply-code .ensures .0) (c .before .reply-code .ensures .1) (past-end refl (c .if1 .taken))
+
+mul-room : tie.Need-mul-room
+mul-room c = search needs
+
+slice-write-room : tie.Need-slice-write-room
+slice-write-room c = search needs
+
+add-result-2 : tie.Need-add-result-2
+add-result-2 c = search needs
 
 same-length : tie.Need-same-length
 same-length c = search needs
 
-returns : tie.Need-returns
-returns c =
-    let e = c .reply-code .ensures in
-    record {
-      wrote = record { ends = refl; bytes = ap (λ n. set (c .before .before .args .list .now) (c .before .before .args .count) n) (e .0); short = omega arith };
-      again = ap (λ u. u ∷ []) (ap answer-of (sym (e .0)) ∙ e .1);
-    }
+returns-2 : tie.Need-returns-2
+returns-2 c = one-told (c .before .reply-code .ensures .0) (c .before .reply-code .ensures .1) (record { ends = refl; bytes = refl; short = omega arith })
 
 pub tell-spec : {M : Type 1} → statement M
-tell-spec =
-    tie.close
-    (tie.spec reply-code-requires mul-list slice-write-list add-result same-length returns)
+tell-spec = tie.close (tie.spec reply-code-requires add-result returns mul-room slice-write-room add-result-2 same-length returns-2)

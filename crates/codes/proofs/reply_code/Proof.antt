@@ -1,6 +1,6 @@
 -- Answer by answer, its number.
 use native.Mathlib.Omega.{arith}
-use Rattle.codes.proofs.Laws.{told, near-refused}
+use Rattle.codes.proofs.Laws.{told, near-refused, near-took}
 use borrow.Author.Needs.{needs}
 use Rattle.codes.proofs.reply_code.Statement.{statement}
 use Rattle.codes.proofs.reply_code.Tie as tie
@@ -30,7 +30,7 @@ enum-known-r-2 : tie.Need-enum-known-r-2
 enum-known-r-2 c = search needs
 
 take-code-requires : tie.Need-take-code-requires
-take-code-requires c κs = search needs
+take-code-requires c κs = near-took _ _ _ (c .before .r2 .given .1) (c .before .before .before .pre)
 
 enum-told-3 : tie.Need-enum-told-3
 enum-told-3 c = search needs

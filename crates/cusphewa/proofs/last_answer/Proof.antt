@@ -3,7 +3,7 @@ use mathlib.Core.Path.{sym, _∙_}
 use native.Mathlib.Omega.{arith}
 use Rattle.wire.proofs.Opening.{opening}
 use Rattle.cusphewa.proofs.Laws.{reply-bad, replies-last, replies-refused, near-last, stop-small}
-use Rattle.session.proofs.Lines.{offset-small}
+use Rattle.session.proofs.Lines.{inside-at}
 use borrow.Author.Needs.{needs}
 use Rattle.cusphewa.proofs.last_answer.Statement.{statement}
 use Rattle.cusphewa.proofs.last_answer.Tie as tie
@@ -38,7 +38,7 @@ returns-3 : tie.Need-returns-3
 returns-3 c =
     let o = opening _ _ _ (sym (c .before .before .before .before .before .header .given .1) ∙ c .before .before .before .before .before .before .before .read-header .ensures) in
     let v = c .before .before .before .unreported .ensures in
-    (replies-refused _ _ _ o _ v _ _ _ (c .before .stop .given .1), offset-small _ _ _ _ (c .before .stop .given .1) (stop-small _ _ _ o _ v))
+    (replies-refused _ _ _ o _ v _ _ _ (c .before .stop .given .1), omega (arith, inside-at _ _ _ _ _ (c .before .stop .given .1) (stop-small _ _ _ o _ v)))
 
 pub last-answer-spec : {M : Type 1} → statement M
 last-answer-spec =

@@ -1,7 +1,7 @@
 -- The part of the caller's slice from where the run stops.
 use native.Mathlib.Omega.{arith}
 use Rattle.cusphewa.proofs.Laws.{shown-end, shown-part}
-use Rattle.session.proofs.Lines.{within-at}
+use Rattle.session.proofs.Lines.{inside-at}
 use borrow.Author.Needs.{needs}
 use Rattle.cusphewa.proofs.shown.Statement.{statement}
 use Rattle.cusphewa.proofs.shown.Tie as tie
@@ -25,7 +25,7 @@ enum-known-stop : tie.Need-enum-known-stop
 enum-known-stop c = search needs
 
 add-e : tie.Need-add-e
-add-e c = omega (arith, within-at _ _ _ _ _ (c .before .stop .given .1) (c .before .before .before .stop-of .ensures .1))
+add-e c = omega (arith, inside-at _ _ _ _ _ (c .before .stop .given .1) (c .before .before .before .stop-of .ensures .1))
 
 sub-result-2 : tie.Need-sub-result-2
 sub-result-2 c = search needs
@@ -34,7 +34,7 @@ part-result-start-2 : tie.Need-part-result-start-2
 part-result-start-2 c = search needs
 
 part-result-end-2 : tie.Need-part-result-end-2
-part-result-end-2 c = omega (arith, within-at _ _ _ _ _ (c .before .stop .given .1) (c .before .before .before .stop-of .ensures .1))
+part-result-end-2 c = omega (arith, inside-at _ _ _ _ _ (c .before .stop .given .1) (c .before .before .before .stop-of .ensures .1))
 
 returns : tie.Need-returns
 returns c = shown-end _ _ (c .before .before .before .stop-of .ensures .0) (c .before .enum-told .given .1)

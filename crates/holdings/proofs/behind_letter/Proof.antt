@@ -1,6 +1,5 @@
 -- By the test.
 use borrow.Author.Tests.{lt-ltb, le-ltb}
-use borrow.Author.Needs.{needs}
 use Rattle.holdings.proofs.behind_letter.Statement.{statement}
 use Rattle.holdings.proofs.behind_letter.Tie as tie
 

@@ -1,30 +1,24 @@
 -- No line, or its parts one after the other.
-use mathlib.Core.Path.{_≡_, sym}
-use mathlib.Core.List.{List, []}
+use mathlib.Core.Path.{sym}
 use native.Mathlib.Omega.{arith}
-use Rattle.rules.specs.Showing.{holding-line}
 use Rattle.text.proofs.Writing.{wrote-none, wrote-as, wrote-then}
-use Rattle.holdings.proofs.Laws.{no-line, line-of}
+use Rattle.holdings.proofs.Laws.{reaches, no-line, line-of}
+use borrow.Author.Tests.{not-true, not-false}
 use borrow.Author.Needs.{needs}
 use Rattle.holdings.proofs.holding.Statement.{statement}
 use Rattle.holdings.proofs.holding.Tie as tie
 
-claim-requires : tie.Need-claim-requires
-claim-requires c κs = search needs
-
-mark-requires : tie.Need-mark-requires
-mark-requires c κs = search needs
-
-nothing-requires : tie.Need-nothing-requires
-nothing-requires c κs = search needs
+something-requires : tie.Need-something-requires
+something-requires c κs = let s = c .before .before .before .before .before in reaches (s .pre .0) (s .args .t) (s .args .k) (s .pre .1) (s .pre .2)
 
 returns : tie.Need-returns
 returns c =
-    let e = no-line (c .before .before .before .before .before .before .before .before .before .args .m) (c .before .before .before .before .before .before .before .before .before .args .b .now) (c .before .before .before .before .before .before .before .before .before .args .value .now) (c .before .before .before .before .before .before .before .before .before .args .seen .now) (c .before .before .before .before .before .before .before .before .before .args .w .now) (c .before .before .before .before .before .before .before .before .before .args .t) (c .before .before .before .before .before .before .before .before .before .args .k) (omega arith) (c .before .before .mark .ensures) (c .before .before .before .claim .ensures) (c .before .nothing .ensures) (c .if1 .taken) in
+    let s = c .before .before .before .before .before .before .before in
+    let e = no-line (s .pre .0) (s .args .t) (s .args .k) (s .pre .1) (s .pre .2) (c .before .something .ensures) (not-true _ (c .if1 .taken)) in
     wrote-as (sym e) (rw e (omega arith)) (wrote-none _ _)
 
 head-requires : tie.Need-head-requires
-head-requires c κs = search needs
+head-requires c κs = let s = c .before .before .before .before .before .before .before .before in (reaches (s .pre .0) (s .args .t) (s .args .k) (s .pre .1) (s .pre .2), omega (arith, s .pre .0 .few), omega arith)
 
 copy-requires : tie.Need-copy-requires
 copy-requires c κs = search needs
@@ -37,16 +31,15 @@ same-length c = search needs
 
 returns-2 : tie.Need-returns-2
 returns-2 c =
-    let e = line-of (c .before .before .before .before .before .before .before .before .before .before .before .before .before .before .before .before .before .before .before .before .before .args .m) (c .before .before .before .before .before .before .before .before .before .before .before .before .before .before .before .before .before .before .before .before .before .args .b .now) (c .before .before .before .before .before .before .before .before .before .before .before .before .before .before .before .before .before .before .before .before .before .args .value .now) (c .before .before .before .before .before .before .before .before .before .before .before .before .before .before .before .before .before .before .before .before .before .args .seen .now) (c .before .before .before .before .before .before .before .before .before .before .before .before .before .before .before .before .before .before .before .before .before .args .w .now) (c .before .before .before .before .before .before .before .before .before .before .before .before .before .before .before .before .before .before .before .before .before .args .t) (c .before .before .before .before .before .before .before .before .before .before .before .before .before .before .before .before .before .before .before .before .before .args .k) (omega arith) (c .before .before .before .before .before .before .before .before .before .before .before .before .before .before .mark .ensures) (c .before .before .before .before .before .before .before .before .before .before .before .before .before .before .before .claim .ensures) (c .before .before .before .before .before .before .before .before .before .before .before .before .before .nothing .ensures) (c .before .before .before .before .before .before .before .before .before .before .before .before .if1 .left) in
+    let s = c .before .before .before .before .before .before .before .before .before .before .before .before .before .before .before .before .before .before .before in
+    let e = line-of (s .pre .0) (s .args .t) (s .args .k) (s .pre .1) (s .pre .2) (c .before .before .before .before .before .before .before .before .before .before .before .before .before .something .ensures) (not-false _ (c .before .before .before .before .before .before .before .before .before .before .before .before .if1 .left)) in
     rw e at (wrote-then (wrote-then (c .before .before .before .before .before .before .before .before .before .before .head .ensures) (c .before .before .before .before .before .before .copy .ensures)) (c .before .before .put .ensures))
 
 pub holding-spec : {M : Type 1} → statement M
 holding-spec =
     tie.close
     (tie.spec
-    claim-requires
-    mark-requires
-    nothing-requires
+    something-requires
     returns
     head-requires
     copy-requires

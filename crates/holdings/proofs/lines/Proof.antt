@@ -1,27 +1,30 @@
 -- Before save t the lines of the first t saves stand there, in room for as many.
-use Prim.Native.Nat.{_+_, _*_, _-_, _≤_}
+use Prim.Native.Nat.{_*_, _-_, _≤_}
 use mathlib.Core.Path.{_≡_}
 use native.Mathlib.Omega.{arith}
 use Rattle.rules.specs.Showing.{rising, holding-text, holding-lines}
-use Rattle.state.specs.Lent.{reading, seen-by}
 use Rattle.text.specs.Wrote.{Wrote}
 use Rattle.text.proofs.Writing.{wrote-length, wrote-end}
 use Rattle.clipped.proofs.Rows.{rising-none, rising-more, row-room}
+use Rattle.holdings.specs.Held.{held-by}
 use borrow.Author.Needs.{needs}
 use Rattle.holdings.proofs.lines.Statement.{statement}
 use Rattle.holdings.proofs.lines.Tie as tie
 
 abbrev Inv-loop : tie.InvT-loop
-Inv-loop room₀ at b value seen w m e₀ t₀ room e t = (t ≤ 32) × Wrote room₀ at (rising (λ u. rising (holding-text (seen-by m (reading b value seen w)) u) m) t) (t * (52 * m)) e room
+Inv-loop room₀ at s value seen w m e₀ t₀ room e t = (t ≤ 32) × Wrote room₀ at (rising (λ u. rising (holding-text (held-by m s value seen w) u) m) t) (t * (52 * m)) e room
 
 abbrev μ-loop : tie.MeasureT-loop
-μ-loop room₀ at b value seen w m e₀ t₀ room e t = 32 - t
+μ-loop room₀ at s value seen w m e₀ t₀ room e t = 32 - t
 
 loop-holds : tie.Need-loop-holds Inv-loop μ-loop
 loop-holds c = (search needs, rising-none _ (52 * c .before .before .before .before .before .args .m))
 
 row-requires : tie.Need-row-requires Inv-loop μ-loop
-row-requires c κs = let e = wrote-end (c .before .before .loop .inv .1) in (c .before .before .before .before .before .before .before .before .pre .0, c .before .before .before .before .before .before .before .before .pre .1, c .before .before .before .before .before .before .before .before .pre .2, c .before .before .before .before .before .before .before .before .pre .3, omega arith, omega (arith, row-room (c .before .before .loop .t) 32 (52 * c .before .before .before .before .before .before .before .before .args .m) (omega arith)))
+row-requires c κs =
+    let s = c .before .before .before .before .before .before .before .before in
+    let g = c .before .before .loop in
+    (s .pre .0, c .before .loop-test .taken, omega (arith, wrote-end (g .inv .1), row-room (g .t) 32 (52 * s .args .m) (c .before .loop-test .taken)))
 
 add-t : tie.Need-add-t Inv-loop μ-loop
 add-t c = search needs

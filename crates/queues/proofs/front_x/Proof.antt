@@ -1,32 +1,54 @@
--- The walk to the first entry finds the front one.
-use mathlib.Core.Path.{refl, sym, _∙_}
-use native.Mathlib.Omega.{arith}
-use borrow.Author.Tests.{eq-eqb, ne-eqb}
-use Rattle.queues.proofs.Walk.{walked-small, queue-front-x}
+use mathlib.Core.Path.{_∙_}
+use Rattle.queues.proofs.Going.{queue-asked, queue-read}
 use borrow.Author.Needs.{needs}
 use Rattle.queues.proofs.front_x.Statement.{statement}
 use Rattle.queues.proofs.front_x.Tie as tie
 
-first-requires : tie.Need-first-requires
-first-requires c κs = search needs
+mul-x : tie.Need-mul-x
+mul-x c = search needs
+
+add-x : tie.Need-add-x
+add-x c = search needs
+
+add-x-2 : tie.Need-add-x-2
+add-x-2 c = search needs
+
+mul-x-2 : tie.Need-mul-x-2
+mul-x-2 c = search needs
+
+shared-slice-read-x : tie.Need-shared-slice-read-x
+shared-slice-read-x c = search needs
+
+mul-front-is : tie.Need-mul-front-is
+mul-front-is c = search needs
+
+add-front-is : tie.Need-add-front-is
+add-front-is c = search needs
+
+mul-front-is-2 : tie.Need-mul-front-is-2
+mul-front-is-2 c = search needs
+
+shared-slice-read-front-is : tie.Need-shared-slice-read-front-is
+shared-slice-read-front-is c = search needs
+
+front-is-requires : tie.Need-front-is-requires
+front-is-requires c κs = let a = c .before .before .before in queue-asked (a .args .m) (a .args .q .now) (a .args .k) (a .pre .2) (a .pre .0) (a .pre .3) (a .pre .4)
 
 returns : tie.Need-returns
-returns c =
-    let s = c .before .before .before in
-    sym (queue-front-x (s .pre .0) (s .pre .1) (s .pre .2) (c .before .first .ensures) refl ∙ rw (eq-eqb _ _ (c .if1 .taken)))
-
-cast-claim : tie.Need-cast-claim
-cast-claim c = search needs
-
-claim-requires : tie.Need-claim-requires
-claim-requires c κs =
-    let s = c .before .before .before in
-    (s .pre .0 .shaped .whole, omega (arith, c .before .first .ensures, walked-small (s .pre .0) (s .pre .1) (s .pre .2) 32 1), s .pre .2)
-
-returns-2 : tie.Need-returns-2
-returns-2 c =
-    let s = c .before .before .before .before in
-    sym (queue-front-x (s .pre .0) (s .pre .1) (s .pre .2) (c .before .before .first .ensures) (c .claim .ensures) ∙ rw (ne-eqb _ _ (c .before .if1 .left)))
+returns c = let a = c .before .before .before .before in c .front-is .ensures ∙ queue-read (a .args .m) (a .args .q .now) (a .args .k) (a .pre .2)
 
 pub front-x-spec : {M : Type 1} → statement M
-front-x-spec = tie.close (tie.spec first-requires returns cast-claim claim-requires returns-2)
+front-x-spec =
+    tie.close
+    (tie.spec
+    mul-x
+    add-x
+    add-x-2
+    mul-x-2
+    shared-slice-read-x
+    mul-front-is
+    add-front-is
+    mul-front-is-2
+    shared-slice-read-front-is
+    front-is-requires
+    returns)

@@ -1,40 +1,51 @@
 -- Row by row, from the first in line on.
-use Prim.Native.Nat.{_-_, _≤_, _<_}
+use Prim.Native.Nat.{_-_, _≤_}
 use mathlib.Core.Path.{_≡_, refl}
 use mathlib.Core.List.{map}
 use native.Mathlib.Omega.{arith}
-use lib.ListN.{length, take}
-use Rattle.state.specs.Parts.{bytes, LINE}
-use Rattle.rows.specs.Rows.{row-of, rows-of}
-use Rattle.rows.proofs.Laws.{row-more}
+use lib.ListN.{length, take, getD}
+use Rattle.rows.specs.Rows.{row-of, row-in}
+use Rattle.rows.proofs.Laws.{row-read, row-more}
 use borrow.Author.Needs.{needs}
 use Rattle.rows.proofs.rows_of.Statement.{statement}
 use Rattle.rows.proofs.rows_of.Tie as tie
 
 abbrev Inv-loop : tie.InvT-loop
-Inv-loop b m count rows₀ i₀ rows i = (i ≤ count) × (length rows ≡ 32) × (map row-of (take i rows) ≡ rows-of (bytes m b) i)
+Inv-loop b line count rows₀ i₀ rows i = (i ≤ count) × (length rows ≡ 32) × (map row-of (take i rows) ≡ map (row-in b) (take i line))
 
 abbrev μ-loop : tie.MeasureT-loop
-μ-loop b m count rows₀ i₀ rows i = count - i
+μ-loop b line count rows₀ i₀ rows i = count - i
 
 loop-holds : tie.Need-loop-holds Inv-loop μ-loop
 loop-holds c = (search needs, search needs, refl)
 
-in-line-requires : tie.Need-in-line-requires Inv-loop μ-loop
-in-line-requires c κs = search needs
+shared-slice-read-t : tie.Need-shared-slice-read-t Inv-loop μ-loop
+shared-slice-read-t c = search needs
 
 cast-k : tie.Need-cast-k Inv-loop μ-loop
-cast-k c = search needs
+cast-k c =
+    let z = c .before .before .before .before .before .pre .3 (c .before .before .loop .i) (c .before .loop-test .taken) in
+    search needs
 
-runs-requires : tie.Need-runs-requires Inv-loop μ-loop
-runs-requires c κs =
-    let o = c .before .before .before .before in
-    (o .pre .0, rw (c .in-line .ensures) (o .pre .2 (c .before .before .loop .i) (c .before .loop-test .taken)))
+add-r : tie.Need-add-r Inv-loop μ-loop
+add-r c =
+    let z = c .before .before .before .before .before .pre .3 (c .before .before .loop .i) (c .before .loop-test .taken) in
+    search needs
 
-phase-requires : tie.Need-phase-requires Inv-loop μ-loop
-phase-requires c κs =
-    let o = c .before .before .before .before .before in
-    (o .pre .0, rw (c .before .in-line .ensures) (o .pre .2 (c .before .before .before .loop .i) (c .before .before .loop-test .taken)))
+shared-slice-read-r : tie.Need-shared-slice-read-r Inv-loop μ-loop
+shared-slice-read-r c =
+    let z = c .before .before .before .before .before .before .pre .3 (c .before .before .before .loop .i) (c .before .before .loop-test .taken) in
+    search needs
+
+add-letter : tie.Need-add-letter Inv-loop μ-loop
+add-letter c =
+    let z = c .before .before .before .before .before .before .pre .3 (c .before .before .before .loop .i) (c .before .before .loop-test .taken) in
+    search needs
+
+shared-slice-read-letter : tie.Need-shared-slice-read-letter Inv-loop μ-loop
+shared-slice-read-letter c =
+    let z = c .before .before .before .before .before .before .before .pre .3 (c .before .before .before .before .loop .i) (c .before .before .before .loop-test .taken) in
+    search needs
 
 letter-requires : tie.Need-letter-requires Inv-loop μ-loop
 letter-requires c κs = search needs
@@ -54,18 +65,18 @@ loop-less c = search needs
 loop-again : tie.Need-loop-again Inv-loop μ-loop
 loop-again c =
     let l = c .before .before .before .before .before .loop in
-    let o = c .before .before .before .before .before .before .before in
-    let d = bytes (o .args .m) (o .args .b .now) in
-    let inside : l .i < length (d LINE) = omega (arith, o .pre .0 .all LINE) in (
+    let o = c .before .before .before .before .before .before .before .before in
+    let t = getD (o .args .line .now) (l .i) 0 in
+    let small = o .pre .3 (l .i) (c .before .before .before .before .loop-test .taken) in (
       search needs,
       search needs,
-      row-more d (l .rows) (l .i) _ _ _ _ (omega arith) inside (c .before .before .before .in-line .ensures) (c .before .before .runs .ensures) (c .before .phase .ensures) (c .letter .ensures) (l .inv .2),
+      row-more (o .args .b .now) (o .args .line .now) (l .rows) (l .i) _ (omega arith) (omega arith) (row-read (o .args .b .now) t _ small (c .letter .ensures)) (l .inv .2),
     )
 
 returns : tie.Need-returns Inv-loop μ-loop
 returns c =
     let l = c .before .loop in
-    let e : l .i ≡ c .before .before .before .args .count = omega arith in
+    let e : l .i ≡ c .before .before .before .before .args .count = omega arith in
     rw (← e) (l .inv .2)
 
 pub rows-of-spec : {M : Type 1} → statement M
@@ -75,10 +86,12 @@ rows-of-spec =
     Inv-loop
     μ-loop
     loop-holds
-    in-line-requires
+    shared-slice-read-t
     cast-k
-    runs-requires
-    phase-requires
+    add-r
+    shared-slice-read-r
+    add-letter
+    shared-slice-read-letter
     letter-requires
     mul-rows
     array-set-from-rows

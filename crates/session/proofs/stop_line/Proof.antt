@@ -24,7 +24,7 @@ same-length : tie.Need-same-length
 same-length c = search needs
 
 returns-2 : tie.Need-returns-2
-returns-2 c = stop-written _ _ _ _ (c .before .before .before .before .before .stop .given .1) (c .before .before .refusal-line .ensures)
+returns-2 c = stop-written _ _ _ (c .before .before .before .before .before .stop .given .1) (c .before .before .refusal-line .ensures)
 
 pub stop-line-spec : {M : Type 1} → statement M
 stop-line-spec =

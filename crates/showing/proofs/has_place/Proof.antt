@@ -1,39 +1,50 @@
 -- Behind the order's end, or by the save that stands there.
-use native.Mathlib.Omega.{arith}
-use Rattle.showing.proofs.Laws.{no-place, some-place}
+use mathlib.Core.Path.{refl}
+use Rattle.showing.proofs.Laws.{save-small, no-place, some-place}
 use borrow.Author.Needs.{needs}
 use Rattle.showing.proofs.has_place.Statement.{statement}
 use Rattle.showing.proofs.has_place.Tie as tie
 
-place-requires : tie.Need-place-requires
-place-requires c κs = search needs
+add-p : tie.Need-add-p
+add-p c = search needs
 
-placed-requires : tie.Need-placed-requires
-placed-requires c κs = search needs
+mul-p : tie.Need-mul-p
+mul-p c = search needs
+
+shared-slice-read-p : tie.Need-shared-slice-read-p
+shared-slice-read-p c = search needs
+
+shared-slice-read-n : tie.Need-shared-slice-read-n
+shared-slice-read-n c = search needs
 
 returns : tie.Need-returns
-returns c = no-place (c .before .before .before .before .args .m) (c .before .before .before .before .args .b .now) (c .before .before .before .before .pre .0) (c .before .before .before .before .args .t) (c .before .before .place .ensures) (c .before .placed .ensures) (c .if1 .taken)
+returns c = let s = c .before .before .before in no-place (s .pre .0) (s .args .t) (s .pre .1) refl (c .if1 .taken)
 
-cast-order : tie.Need-cast-order
-cast-order c = search needs
+add-u : tie.Need-add-u
+add-u c = search needs
 
-order-requires : tie.Need-order-requires
-order-requires c κs = (c .before .before .before .before .pre .0 .shaped .whole, omega (arith, c .before .before .before .before .pre .0 .shaped .fits, c .before .placed .ensures))
+shared-slice-read-u : tie.Need-shared-slice-read-u
+shared-slice-read-u c = search needs
 
 cast-result : tie.Need-cast-result
-cast-result c = search needs
+cast-result c =
+    let s = c .before .before .before .before in
+    let z = save-small (s .pre .0) _ (c .before .if1 .left) in
+    search needs
 
 returns-2 : tie.Need-returns-2
-returns-2 c = some-place (c .before .before .before .before .before .args .m) (c .before .before .before .before .before .args .b .now) (c .before .before .before .before .before .pre .0) (c .before .before .before .before .before .args .t) (c .before .before .before .place .ensures) (c .before .before .placed .ensures) (c .before .if1 .left) (c .order .ensures)
+returns-2 c = let s = c .before .before .before .before in some-place (s .pre .0) (s .args .t) (s .pre .1) refl (c .before .if1 .left)
 
 pub has-place-spec : {M : Type 1} → statement M
 has-place-spec =
     tie.close
     (tie.spec
-    place-requires
-    placed-requires
+    add-p
+    mul-p
+    shared-slice-read-p
+    shared-slice-read-n
     returns
-    cast-order
-    order-requires
+    add-u
+    shared-slice-read-u
     cast-result
     returns-2)

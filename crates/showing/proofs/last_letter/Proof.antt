@@ -1,20 +1,25 @@
 -- By the test.
+use Rattle.state.specs.View.{PLACE}
+use Rattle.state.proofs.Parts.{part-in}
 use borrow.Author.Tests.{eq-eqb, ne-eqb}
 use borrow.Author.Needs.{needs}
 use Rattle.showing.proofs.last_letter.Statement.{statement}
 use Rattle.showing.proofs.last_letter.Tie as tie
 
-place-requires : tie.Need-place-requires
-place-requires c κs = search needs
+add-l : tie.Need-add-l
+add-l c = search needs
 
-cast-if1 : tie.Need-cast-if1
-cast-if1 c = search needs
+mul-l : tie.Need-mul-l
+mul-l c = search needs
+
+shared-slice-read-l : tie.Need-shared-slice-read-l
+shared-slice-read-l c = search needs
 
 returns : tie.Need-returns
-returns c = rw (← c .before .place .ensures, eq-eqb _ _ (c .if1 .taken))
+returns c = rw (part-in PLACE 32 (c .before .before .args .q .now) (c .before .before .args .t) (c .before .before .pre .1), eq-eqb _ _ (c .if1 .taken))
 
 returns-2 : tie.Need-returns-2
-returns-2 c = rw (← c .before .place .ensures, ne-eqb _ _ (c .if1 .left))
+returns-2 c = rw (part-in PLACE 32 (c .before .before .args .q .now) (c .before .before .args .t) (c .before .before .pre .1), ne-eqb _ _ (c .if1 .left))
 
 pub last-letter-spec : {M : Type 1} → statement M
-last-letter-spec = tie.close (tie.spec place-requires cast-if1 returns returns-2)
+last-letter-spec = tie.close (tie.spec add-l mul-l shared-slice-read-l returns returns-2)

@@ -1,17 +1,24 @@
 -- No line, or its parts.
+use mathlib.Core.Path.{refl}
 use Rattle.showing.proofs.Laws.{unused-text, save-is}
 use borrow.Author.Needs.{needs}
 use Rattle.showing.proofs.save.Statement.{statement}
 use Rattle.showing.proofs.save.Tie as tie
 
-phase-requires : tie.Need-phase-requires
-phase-requires c κs = search needs
+add-p : tie.Need-add-p
+add-p c = search needs
+
+shared-slice-read-p : tie.Need-shared-slice-read-p
+shared-slice-read-p c = search needs
 
 returns : tie.Need-returns
-returns c = unused-text (c .before .before .before .before .args .m) (c .before .before .before .before .args .b .now) (c .before .before .before .before .pre .0) (c .before .before .before .before .args .t) (c .before .before .before .before .pre .1) (c .before .phase .ensures) (c .if1 .taken)
+returns c = let s = c .before .before .before .before .before .before in unused-text (s .args .m) (s .args .b .now) (s .args .s .now) (s .args .t) (s .pre .2) refl (s .args .q .now) (c .if1 .taken)
 
-runs-requires : tie.Need-runs-requires
-runs-requires c κs = search needs
+add-r : tie.Need-add-r
+add-r c = search needs
+
+shared-slice-read-r : tie.Need-shared-slice-read-r
+shared-slice-read-r c = search needs
 
 save-head-requires : tie.Need-save-head-requires
 save-head-requires c κs = search needs
@@ -29,15 +36,20 @@ same-length : tie.Need-same-length
 same-length c = search needs
 
 returns-2 : tie.Need-returns-2
-returns-2 c = save-is (c .before .before .before .before .before .before .before .before .before .before .before .before .before .before .before .before .before .before .before .before .before .args .m) (c .before .before .before .before .before .before .before .before .before .before .before .before .before .before .before .before .before .before .before .before .before .args .b .now) (c .before .before .before .before .before .before .before .before .before .before .before .before .before .before .before .before .before .before .before .before .before .pre .0) (c .before .before .before .before .before .before .before .before .before .before .before .before .before .before .before .before .before .before .before .before .before .args .t) (c .before .before .before .before .before .before .before .before .before .before .before .before .before .before .before .before .before .before .before .before .before .pre .1) (c .before .before .before .before .before .before .before .before .before .before .before .before .before .before .before .before .before .before .phase .ensures) (c .before .before .before .before .before .before .before .before .before .before .before .before .before .before .before .before .before .if1 .left) (c .before .before .before .before .before .before .before .before .before .before .before .before .before .before .before .before .runs .ensures) (c .before .before .before .before .before .before .before .before .before .before .before .before .before .before .save-head .ensures) (c .before .before .before .before .before .before .before .before .before .before .save-marks .ensures) (c .before .before .before .before .before .before .save-place .ensures) (c .before .before .put .ensures)
+returns-2 c =
+    let s = c .before .before .before .before .before .before .before .before .before .before .before .before .before .before .before .before .before .before .before .before .before .before .before in
+    save-is (s .args .m) (s .args .b .now) (s .args .s .now) (s .args .t) (s .pre .2) refl (s .args .q .now) (c .before .before .before .before .before .before .before .before .before .before .before .before .before .before .before .before .before .if1 .left)
+    (c .before .before .before .before .before .before .before .before .before .before .before .before .before .before .save-head .ensures) (c .before .before .before .before .before .before .before .before .before .before .save-marks .ensures) (c .before .before .before .before .before .before .save-place .ensures) (c .before .before .put .ensures)
 
 pub save-spec : {M : Type 1} → statement M
 save-spec =
     tie.close
     (tie.spec
-    phase-requires
+    add-p
+    shared-slice-read-p
     returns
-    runs-requires
+    add-r
+    shared-slice-read-r
     save-head-requires
     save-marks-requires
     save-place-requires

@@ -1,5 +1,4 @@
 -- The letter, the save, its phase, its runs.
-use mathlib.Core.Path.{sym}
 use Rattle.rules.specs.Showing.{save-head}
 use Rattle.text.proofs.Writing.{wrote-then}
 use borrow.Author.Needs.{needs}

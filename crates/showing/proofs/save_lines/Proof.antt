@@ -1,28 +1,27 @@
 -- Before t the lines of the first t stand there, in room for as many.
-use Prim.Native.Nat.{_+_, _*_, _-_, _≤_}
+use Prim.Native.Nat.{_*_, _-_, _≤_}
 use mathlib.Core.Path.{_≡_}
 use native.Mathlib.Omega.{arith}
-use Rattle.rules.specs.Showing.{rising, save-text, save-lines}
-use Rattle.state.specs.Lent.{own, seen-by}
 use Rattle.text.specs.Wrote.{Wrote}
 use Rattle.text.proofs.Writing.{wrote-length, wrote-end}
 use Rattle.clipped.proofs.Rows.{rising-none, rising-more}
-use Rattle.clipped.proofs.Laws.{wrote-within}
+use Rattle.rules.specs.Showing.{rising, save-text, save-lines}
+use Rattle.state.specs.View.{bare}
 use borrow.Author.Needs.{needs}
 use Rattle.showing.proofs.save_lines.Statement.{statement}
 use Rattle.showing.proofs.save_lines.Tie as tie
 
 abbrev Inv-loop : tie.InvT-loop
-Inv-loop room₀ at b m e₀ t₀ room e t = (t ≤ 32) × Wrote room₀ at (rising (save-text (seen-by m (own b))) t) (t * 41) e room
+Inv-loop room₀ at b s q m e₀ t₀ room e t = (t ≤ 32) × Wrote room₀ at (rising (save-text (bare m b s q)) t) (t * 41) e room
 
 abbrev μ-loop : tie.MeasureT-loop
-μ-loop room₀ at b m e₀ t₀ room e t = 32 - t
+μ-loop room₀ at b s q m e₀ t₀ room e t = 32 - t
 
 loop-holds : tie.Need-loop-holds Inv-loop μ-loop
 loop-holds c = (search needs, rising-none _ 41)
 
 save-requires : tie.Need-save-requires Inv-loop μ-loop
-save-requires c κs = let e = wrote-end (c .before .before .loop .inv .1) in (c .before .before .before .before .before .pre .0, omega arith, omega arith)
+save-requires c κs = let s = c .before .before .before .before .before .before .before in (s .pre .0, s .pre .1, c .before .loop-test .taken, omega (arith, wrote-end (c .before .before .loop .inv .1), c .before .loop-test .taken, s .pre .2))
 
 add-t : tie.Need-add-t Inv-loop μ-loop
 add-t c = search needs

@@ -1,19 +1,31 @@
 -- By the test.
-use mathlib.Core.Path.{sym, ap, _∙_}
+use mathlib.Core.Path.{refl}
 use native.Mathlib.Omega.{arith}
+use Rattle.state.specs.View.{PLACE}
+use Rattle.state.proofs.Parts.{part-in}
 use Rattle.clipped.proofs.Laws.{wrote-within}
+use Rattle.showing.proofs.Laws.{place-small}
 use borrow.Author.Needs.{needs}
 use Rattle.showing.proofs.save_place.Statement.{statement}
 use Rattle.showing.proofs.save_place.Tie as tie
 
 has-place-requires : tie.Need-has-place-requires
-has-place-requires c κs = search needs
+has-place-requires c κs = (c .before .before .before .pre .0 .ordered, c .before .before .before .pre .1)
 
-place-requires : tie.Need-place-requires
-place-requires c κs = search needs
+add-p : tie.Need-add-p
+add-p c = search needs
+
+mul-p : tie.Need-mul-p
+mul-p c = search needs
+
+shared-slice-read-p : tie.Need-shared-slice-read-p
+shared-slice-read-p c = search needs
 
 cast-field : tie.Need-cast-field
-cast-field c = search needs
+cast-field c =
+    let s = c .before .before .before .before .before .before .before in
+    let z = place-small (s .pre .0 .ordered) (s .args .t) (s .pre .1) refl (c .before .before .before .has-place .ensures) (c .before .before .if1 .taken) in
+    search (needs, s .pre .0 .fits)
 
 field-requires : tie.Need-field-requires
 field-requires c κs = search needs
@@ -22,7 +34,9 @@ same-length : tie.Need-same-length
 same-length c = search needs
 
 returns : tie.Need-returns
-returns c = wrote-within (rw (← c .before .before .before .before .before .before .has-place .ensures, c .before .before .before .before .before .if1 .taken, c .before .before .before .before .place .ensures)) (omega arith) (c .before .before .field .ensures)
+returns c =
+    let s = c .before .before .before .before .before .before .before .before .before .before in
+    wrote-within (rw (← c .before .before .before .before .before .before .has-place .ensures, c .before .before .before .before .before .if1 .taken, part-in PLACE 32 (s .args .q .now) (s .args .t) (s .pre .1))) (omega arith) (c .before .before .field .ensures)
 
 letter-requires : tie.Need-letter-requires
 letter-requires c κs = search needs
@@ -38,7 +52,9 @@ save-place-spec =
     tie.close
     (tie.spec
     has-place-requires
-    place-requires
+    add-p
+    mul-p
+    shared-slice-read-p
     cast-field
     field-requires
     same-length

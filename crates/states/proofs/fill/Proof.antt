@@ -12,7 +12,7 @@ same-length : tie.Need-same-length
 same-length c = search needs
 
 returns : tie.Need-returns
-returns c = (fits-all (c .before .before .before .before .before .before .before .before .before .before .args .m) (c .before .before .before .before .before .before .before .before .before .before .pre .few) (c .before .before .before .before .if1 .taken) (c .before .before .text .ensures), (room-enough (c .before .before .before .before .before .before .before .before .before .before .args .m) (c .before .before .before .before .before .before .before .before .before .before .pre .few) (c .before .before .text .ensures), text-short (c .before .before .before .before .before .before .before .before .before .before .args .m) (c .before .before .before .before .before .before .before .before .before .before .pre .few) (c .before .before .text .ensures)))
+returns c = (fits-all (c .before .before .before .before .before .before .before .before .before .before .before .before .args .m) (c .before .before .before .before .before .before .before .before .before .before .before .before .pre .few) (c .before .before .before .before .if1 .taken) (c .before .before .text .ensures), (room-enough (c .before .before .before .before .before .before .before .before .before .before .before .before .args .m) (c .before .before .before .before .before .before .before .before .before .before .before .before .pre .few) (c .before .before .text .ensures), text-short (c .before .before .before .before .before .before .before .before .before .before .before .before .args .m) (c .before .before .before .before .before .before .before .before .before .before .before .before .pre .few) (c .before .before .text .ensures)))
 
 slice-aggregate-text : tie.Need-slice-aggregate-text
 slice-aggregate-text c = search needs
@@ -21,7 +21,7 @@ text-requires-2 : tie.Need-text-requires-2
 text-requires-2 c κs = search needs
 
 returns-2 : tie.Need-returns-2
-returns-2 c = (too-short (c .before .before .text2 .ensures) (c .if2 .taken), (room-enough (c .before .before .before .before .before .before .before .before .before .before .args .m) (c .before .before .before .before .before .before .before .before .before .before .pre .few) (c .before .before .text2 .ensures), text-short (c .before .before .before .before .before .before .before .before .before .before .args .m) (c .before .before .before .before .before .before .before .before .before .before .pre .few) (c .before .before .text2 .ensures)))
+returns-2 c = (too-short (c .before .before .text2 .ensures) (c .if2 .taken), (room-enough (c .before .before .before .before .before .before .before .before .before .before .before .before .args .m) (c .before .before .before .before .before .before .before .before .before .before .before .before .pre .few) (c .before .before .text2 .ensures), text-short (c .before .before .before .before .before .before .before .before .before .before .before .before .args .m) (c .before .before .before .before .before .before .before .before .before .before .before .before .pre .few) (c .before .before .text2 .ensures)))
 
 text-requires-3 : tie.Need-text-requires-3
 text-requires-3 c κs = search needs
@@ -30,7 +30,7 @@ same-length-2 : tie.Need-same-length-2
 same-length-2 c = search needs
 
 returns-3 : tie.Need-returns-3
-returns-3 c = (fits (c .before .before .before .before .before .before .text2 .ensures) (c .before .before .before .before .if2 .left) (c .before .before .text3 .ensures), (room-enough (c .before .before .before .before .before .before .before .before .before .before .before .before .before .before .args .m) (c .before .before .before .before .before .before .before .before .before .before .before .before .before .before .pre .few) (c .before .before .text3 .ensures), text-short (c .before .before .before .before .before .before .before .before .before .before .before .before .before .before .args .m) (c .before .before .before .before .before .before .before .before .before .before .before .before .before .before .pre .few) (c .before .before .before .before .before .before .text2 .ensures)))
+returns-3 c = (fits (c .before .before .before .before .before .before .text2 .ensures) (c .before .before .before .before .if2 .left) (c .before .before .text3 .ensures), (room-enough (c .before .before .before .before .before .before .before .before .before .before .before .before .before .before .before .before .args .m) (c .before .before .before .before .before .before .before .before .before .before .before .before .before .before .before .before .pre .few) (c .before .before .text3 .ensures), text-short (c .before .before .before .before .before .before .before .before .before .before .before .before .before .before .before .before .args .m) (c .before .before .before .before .before .before .before .before .before .before .before .before .before .before .before .before .pre .few) (c .before .before .before .before .before .before .text2 .ensures)))
 
 pub fill-spec : {M : Type 1} → statement M
 fill-spec =

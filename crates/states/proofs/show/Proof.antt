@@ -3,10 +3,9 @@ use Prim.Native.Nat.{_*_}
 use mathlib.Core.Path.{_∙_}
 use native.Mathlib.Omega.{arith}
 use Rattle.rules.specs.Sizes.{max-sheets}
-use Rattle.state.specs.Parts.{all-of, byte-sizes, hint-sizes}
-use Rattle.state.proofs.Blank.{blank-zeros}
+use Rattle.state.proofs.Fresh.{blank-zeros}
 use Rattle.wire.proofs.Opening.{opening, header-within, few-sheets, owners-part, owners-many}
-use Rattle.session.proofs.Needs.{begins}
+use Rattle.session.proofs.Needs.{begins, owners-few}
 use Rattle.states.proofs.Laws.{shows, called, short-so}
 use borrow.Author.Needs.{needs}
 use Rattle.states.proofs.show.Statement.{statement}
@@ -30,6 +29,9 @@ slice-aggregate-fresh-4 c = search needs
 slice-aggregate-fresh-5 : tie.Need-slice-aggregate-fresh-5
 slice-aggregate-fresh-5 c = search needs
 
+slice-aggregate-fresh-6 : tie.Need-slice-aggregate-fresh-6
+slice-aggregate-fresh-6 c = search needs
+
 sub-fresh : tie.Need-sub-fresh
 sub-fresh c = search needs
 
@@ -37,13 +39,13 @@ part-fresh-start : tie.Need-part-fresh-start
 part-fresh-start c = search needs
 
 part-fresh-end : tie.Need-part-fresh-end
-part-fresh-end c = omega (arith, header-within (opening (c .before .before .before .before .before .before .before .args .session .now) (c .before .before .before .before .before .before .before .args .nodes) (c .before .before .before .before .before .before .before .args .sheets) (c .before .before .before .before .before .before .before .pre)))
+part-fresh-end c = let s = c .before .before .before .before .before .before .before .before in omega (arith, header-within (opening (s .args .session .now) (s .args .nodes) (s .args .sheets) (s .pre)))
 
 fresh-requires : tie.Need-fresh-requires
-fresh-requires c κs =
-    let o = opening (c .before .before .before .before .before .before .before .before .args .session .now) (c .before .before .before .before .before .before .before .before .args .nodes) (c .before .before .before .before .before .before .before .before .args .sheets) (c .before .before .before .before .before .before .before .before .pre) in
+fresh-requires c κs = let s = c .before .before .before .before .before .before .before .before .before in
+    let o = opening (s .args .session .now) (s .args .nodes) (s .args .sheets) (s .pre) in
     let f = few-sheets o in
-    rw (owners-many o) (blank-zeros (c .before .before .before .before .before .before .before .before .args .sheets) (all-of (byte-sizes max-sheets)) (all-of (hint-sizes max-sheets)) (32 * max-sheets) (32 * max-sheets) (2 * max-sheets) (omega arith) (omega arith) (omega arith) (omega arith) (omega arith))
+    (rw (owners-many o) (blank-zeros (s .args .sheets) 2849 168 202 (32 * max-sheets) (32 * max-sheets) (2 * max-sheets) (omega arith) (omega arith) (omega arith) (omega arith) (omega arith) (omega arith)), owners-few o (owners-part o))
 
 slice-aggregate-walk : tie.Need-slice-aggregate-walk
 slice-aggregate-walk c = search needs
@@ -60,10 +62,13 @@ slice-aggregate-walk-4 c = search needs
 slice-aggregate-walk-5 : tie.Need-slice-aggregate-walk-5
 slice-aggregate-walk-5 c = search needs
 
+slice-aggregate-walk-6 : tie.Need-slice-aggregate-walk-6
+slice-aggregate-walk-6 c = search needs
+
 walk-requires : tie.Need-walk-requires
-walk-requires c κs =
-    let o = opening (c .before .before .before .before .before .before .before .before .before .before .before .before .before .before .before .args .session .now) (c .before .before .before .before .before .before .before .before .before .before .before .before .before .before .before .args .nodes) (c .before .before .before .before .before .before .before .before .before .before .before .before .before .before .before .args .sheets) (c .before .before .before .before .before .before .before .before .before .before .before .before .before .before .before .pre) in
-    begins (c .before .before .before .before .before .before .before .before .before .before .before .before .before .before .before .args .session .now) (c .before .before .before .before .before .before .before .before .before .before .before .before .before .before .before .args .nodes) (c .before .before .before .before .before .before .before .before .before .before .before .before .before .before .before .args .sheets) o (owners-part o) (c .before .before .before .before .before .before .fresh .ensures)
+walk-requires c κs = let s = c .before .before .before .before .before .before .before .before .before .before .before .before .before .before .before .before .before .before in
+    let o = opening (s .args .session .now) (s .args .nodes) (s .args .sheets) (s .pre) in
+    begins (s .args .session .now) (s .args .nodes) (s .args .sheets) o (owners-part o) (c .before .before .before .before .before .before .before .before .fresh .ensures)
 
 slice-aggregate-fill : tie.Need-slice-aggregate-fill
 slice-aggregate-fill c = search needs
@@ -77,18 +82,24 @@ slice-aggregate-fill-3 c = search needs
 slice-aggregate-fill-4 : tie.Need-slice-aggregate-fill-4
 slice-aggregate-fill-4 c = search needs
 
+slice-aggregate-fill-5 : tie.Need-slice-aggregate-fill-5
+slice-aggregate-fill-5 c = search needs
+
+slice-aggregate-fill-6 : tie.Need-slice-aggregate-fill-6
+slice-aggregate-fill-6 c = search needs
+
 fill-requires : tie.Need-fill-requires
-fill-requires c κs =
-    let o = opening (c .before .before .before .before .before .before .before .before .before .before .before .before .before .before .before .before .before .before .before .before .before .before .before .before .before .before .before .args .session .now) (c .before .before .before .before .before .before .before .before .before .before .before .before .before .before .before .before .before .before .before .before .before .before .before .before .before .before .before .args .nodes) (c .before .before .before .before .before .before .before .before .before .before .before .before .before .before .before .before .before .before .before .before .before .before .before .before .before .before .before .args .sheets) (c .before .before .before .before .before .before .before .before .before .before .before .before .before .before .before .before .before .before .before .before .before .before .before .before .before .before .before .pre) in
-    shows (o .opened-well) (c .before .before .before .before .before .before .before .before .before .before .before .walk .ensures) (few-sheets o)
+fill-requires c κs = let s = c .before .before .before .before .before .before .before .before .before .before .before .before .before .before .before .before .before .before .before .before .before .before .before .before .before .before .before .before .before .before .before .before .before in
+    let o = opening (s .args .session .now) (s .args .nodes) (s .args .sheets) (s .pre) in
+    shows (o .opened-well) (c .before .before .before .before .before .before .before .before .before .before .before .before .before .before .walk .ensures) (few-sheets o)
 
 same-length : tie.Need-same-length
 same-length c = search needs
 
 returns : tie.Need-returns
-returns c =
-    let o = opening (c .before .before .before .before .before .before .before .before .before .before .before .before .before .before .before .before .before .before .before .before .before .before .before .before .before .before .before .before .before .before .args .session .now) (c .before .before .before .before .before .before .before .before .before .before .before .before .before .before .before .before .before .before .before .before .before .before .before .before .before .before .before .before .before .before .args .nodes) (c .before .before .before .before .before .before .before .before .before .before .before .before .before .before .before .before .before .before .before .before .before .before .before .before .before .before .before .before .before .before .args .sheets) (c .before .before .before .before .before .before .before .before .before .before .before .before .before .before .before .before .before .before .before .before .before .before .before .before .before .before .before .before .before .before .pre) in
-    (c .before .before .fill .ensures .0 ∙ called (o .opened-well) (c .before .before .before .before .before .before .before .before .before .before .before .before .before .before .walk .ensures) (c .before .before .before .before .before .before .before .before .before .before .before .before .before .before .before .before .before .before .before .before .before .before .before .before .before .before .before .before .before .before .args .room .now), (c .before .before .fill .ensures .1 .0, short-so (o .opened-well) (c .before .before .before .before .before .before .before .before .before .before .before .before .before .before .walk .ensures) (c .before .before .fill .ensures .1 .1)))
+returns c = let s = c .before .before .before .before .before .before .before .before .before .before .before .before .before .before .before .before .before .before .before .before .before .before .before .before .before .before .before .before .before .before .before .before .before .before .before .before in
+    let o = opening (s .args .session .now) (s .args .nodes) (s .args .sheets) (s .pre) in
+    (c .before .before .fill .ensures .0 ∙ called (o .opened-well) (c .before .before .before .before .before .before .before .before .before .before .before .before .before .before .before .before .before .walk .ensures) (s .args .room .now), (c .before .before .fill .ensures .1 .0, short-so (o .opened-well) (c .before .before .before .before .before .before .before .before .before .before .before .before .before .before .before .before .before .walk .ensures) (c .before .before .fill .ensures .1 .1)))
 
 pub show-spec : {M : Type 1} → statement M
 show-spec =
@@ -100,6 +111,7 @@ show-spec =
     slice-aggregate-fresh-3
     slice-aggregate-fresh-4
     slice-aggregate-fresh-5
+    slice-aggregate-fresh-6
     sub-fresh
     part-fresh-start
     part-fresh-end
@@ -109,11 +121,14 @@ show-spec =
     slice-aggregate-walk-3
     slice-aggregate-walk-4
     slice-aggregate-walk-5
+    slice-aggregate-walk-6
     walk-requires
     slice-aggregate-fill
     slice-aggregate-fill-2
     slice-aggregate-fill-3
     slice-aggregate-fill-4
+    slice-aggregate-fill-5
+    slice-aggregate-fill-6
     fill-requires
     same-length
     returns)

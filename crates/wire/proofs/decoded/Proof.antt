@@ -24,8 +24,8 @@ shared-slice-read-t12 c = search needs
 shared-slice-read-t14 : tie.Need-shared-slice-read-t14
 shared-slice-read-t14 c = search needs
 
-cast-t15 : tie.Need-cast-t15
-cast-t15 c = omega (arith, c .shared-slice-known4 .given 1)
+cast-t9 : tie.Need-cast-t9
+cast-t9 c = omega (arith, c .shared-slice-known4 .given 1)
 
 returns-3 : tie.Need-returns-3
 unfolding operand-bytes
@@ -38,39 +38,39 @@ returns-4 : tie.Need-returns-4
 unfolding operand-bytes
 returns-4 c = front-short (c .before .before .before .args .b) (c .before .before .before .args .s .now) 4 1 refl (c .before .match .keys4) (c .if4 .taken)
 
-shared-slice-read-t23 : tie.Need-shared-slice-read-t23
-shared-slice-read-t23 c = search needs
+shared-slice-read-t22 : tie.Need-shared-slice-read-t22
+shared-slice-read-t22 c = search needs
 
 returns-5 : tie.Need-returns-5
 unfolding operand-bytes
 returns-5 c = front-short (c .before .before .before .args .b) (c .before .before .before .args .s .now) 5 1 refl (c .before .match .keys5) (c .if5 .taken)
 
-shared-slice-read-t28 : tie.Need-shared-slice-read-t28
-shared-slice-read-t28 c = search needs
+shared-slice-read-t27 : tie.Need-shared-slice-read-t27
+shared-slice-read-t27 c = search needs
 
 returns-6 : tie.Need-returns-6
 unfolding operand-bytes
 returns-6 c = front-short (c .before .before .before .args .b) (c .before .before .before .args .s .now) 6 1 refl (c .before .match .keys6) (c .if6 .taken)
 
-shared-slice-read-t33 : tie.Need-shared-slice-read-t33
-shared-slice-read-t33 c = search needs
+shared-slice-read-t32 : tie.Need-shared-slice-read-t32
+shared-slice-read-t32 c = search needs
 
 returns-7 : tie.Need-returns-7
 unfolding operand-bytes
 returns-7 c = front-short (c .before .before .before .args .b) (c .before .before .before .args .s .now) 7 2 refl (c .before .match .keys7) (c .if7 .taken)
 
-shared-slice-read-t38 : tie.Need-shared-slice-read-t38
-shared-slice-read-t38 c = search needs
+shared-slice-read-t37 : tie.Need-shared-slice-read-t37
+shared-slice-read-t37 c = search needs
 
-shared-slice-read-t40 : tie.Need-shared-slice-read-t40
-shared-slice-read-t40 c = search needs
+shared-slice-read-t39 : tie.Need-shared-slice-read-t39
+shared-slice-read-t39 c = search needs
 
 returns-8 : tie.Need-returns-8
 unfolding operand-bytes
 returns-8 c = front-short (c .before .before .before .args .b) (c .before .before .before .args .s .now) 8 1 refl (c .before .match .keys8) (c .if8 .taken)
 
-shared-slice-read-t45 : tie.Need-shared-slice-read-t45
-shared-slice-read-t45 c = search needs
+shared-slice-read-t44 : tie.Need-shared-slice-read-t44
+shared-slice-read-t44 c = search needs
 
 returns-9 : tie.Need-returns-9
 unfolding operand-bytes
@@ -116,20 +116,20 @@ decoded-spec =
     returns-2
     shared-slice-read-t12
     shared-slice-read-t14
-    cast-t15
+    cast-t9
     returns-3
     write-requires
     returns-4
-    shared-slice-read-t23
+    shared-slice-read-t22
     returns-5
-    shared-slice-read-t28
+    shared-slice-read-t27
     returns-6
-    shared-slice-read-t33
+    shared-slice-read-t32
     returns-7
-    shared-slice-read-t38
-    shared-slice-read-t40
+    shared-slice-read-t37
+    shared-slice-read-t39
     returns-8
-    shared-slice-read-t45
+    shared-slice-read-t44
     returns-9
     returns-10
     returns-11

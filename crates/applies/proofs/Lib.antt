@@ -1,0 +1,3 @@
+pub mod Applying
+pub mod Carry
+pub mod Common

@@ -1,0 +1,5 @@
+pub mod Common
+pub mod Going
+pub mod Leaving
+pub mod Rows
+pub mod Stands

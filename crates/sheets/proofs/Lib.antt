@@ -1,4 +1,0 @@
-pub mod Left
-pub mod Rising
-pub mod Here
-pub mod Sheets

@@ -1,0 +1,8 @@
+pub mod Wide
+pub mod Claims
+pub mod Seats
+pub mod Common
+pub mod Claiming
+pub mod Joins
+pub mod Freeing
+pub mod Submitting
