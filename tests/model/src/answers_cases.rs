@@ -109,7 +109,7 @@ fn a_long_list_and_the_byte_that_is_left() {
     // Saves in turns on eight nodes, where most commands are TAKEs; then a single byte.
     let owner = (0..64).map(|sheet| sheet % 8).collect();
     let header = Header { nodes: 8, owner };
-    let mut session = generate::turns(&mut Prng::new(1), header, 31, MOST_BYTES - 1, 0);
+    let mut session = generate::turns(&mut Prng::new(1), header, 31, MOST_BYTES - 1, 0, false);
     let accepted = Session::run(&session).steps.len();
     assert!(accepted > 6_000, "{accepted} commands");
     session.push(5);

@@ -698,20 +698,34 @@ fn any_turns(prng: &mut Prng) -> Vec<u8> {
     let saves = prng.pick(&[2, 3, 8, MOST_SAVES - 1]);
     let length = prng.between(8_000, MOST_BYTES);
     let rest = if prng.one_in(2) { prng.below(length / 4) } else { 0 };
-    turns(prng, owners, saves, length, rest)
+    let all = prng.one_in(2);
+    turns(prng, owners, saves, length, rest, all)
 }
 
 /// So many saves hold an X on sheet 0 and stand in its queue, where one before them has failed them all. The
 /// first of them opens a sheet, or writes one that is only S, and goes to the end, where the X of the others
 /// fails it again; then it is the next one's turn. A save whose claim is whole commits. In the rest of the
-/// session all nodes catch up.
-pub fn turns(prng: &mut Prng, header: Header, saves: usize, length: usize, rest: usize) -> Vec<u8> {
+/// session all nodes catch up. The one before them has written all sheets, or only that one.
+pub fn turns(
+    prng: &mut Prng,
+    header: Header,
+    saves: usize,
+    length: usize,
+    rest: usize,
+    all: bool,
+) -> Vec<u8> {
     let mut line = Line::new(header, length);
     let nodes = line.header.nodes;
     let first = saves;
     for save in [first].into_iter().chain(0..saves) {
         line.put(Command::Begin { save });
         line.put(Command::Read { save, sheet: 0 });
+    }
+    if all {
+        for sheet in 1..line.header.owner.len() {
+            line.put(Command::Read { save: first, sheet });
+            line.put(Command::Write { save: first, sheet, content: content(prng) });
+        }
     }
     // Save 0 has an S to begin with: nothing that it could have less.
     for save in 1..=first {

@@ -563,7 +563,7 @@ fn a_later_commit_by_decide_counts_under_s() {
 /// A session in turns of these saves, on sheets that are the nodes' in turns too.
 fn in_turns(nodes: usize, saves: usize) -> Vec<u8> {
     let owner = (0..64).map(|sheet| sheet % nodes).collect();
-    generate::turns(&mut Prng::new(1), Header { nodes, owner }, saves, 16_384, 0)
+    generate::turns(&mut Prng::new(1), Header { nodes, owner }, saves, 16_384, 0, false)
 }
 
 #[test]
@@ -593,7 +593,7 @@ fn a_node_that_lags_behind_many_former_places() {
     // Node 2 owns the last sheet only, and takes nothing until the end.
     let owner = (0..8).map(|sheet| if sheet == 7 { 2 } else { sheet % 2 }).collect();
     let header = Header { nodes: 3, owner };
-    let mut session = generate::turns(&mut Prng::new(1), header, 2, 300, 0);
+    let mut session = generate::turns(&mut Prng::new(1), header, 2, 300, 0, false);
     let engine = end_of(&session);
     let behind = engine.order.len() - engine.taken[2];
     assert!(engine.taken[2] <= 3 && behind > 8);
