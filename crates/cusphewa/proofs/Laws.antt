@@ -3,26 +3,21 @@ use Prim.Native.Nat.{ℕ, _+_, _-_, _*_, _/_, _%_, _^_, _≤_, _<_}
 use mathlib.Core.Path.{_≡_, refl, sym, ap, _∙_}
 use mathlib.Core.List.{List, [], _∷_}
 use native.Mathlib.Omega.{arith}
-use borrow.Author.Tests.{lt-ltb, le-ltb}
 use lib.ListN.{length, take, drop}
-use Rattle.rules.specs.Sizes.{max-session, min-buffer}
+use Rattle.rules.specs.Sizes.{max-session}
 use Rattle.rules.specs.Bytes.{header, reading}
 use Rattle.rules.specs.State.{fresh}
 use Rattle.rules.specs.Steps.{Event, run}
 use Rattle.rules.specs.Calls as calls
 use Rattle.rules.specs.Causes.{WhyFailed}
 use Rattle.rules.specs.Ordered.{AlwaysOrdered}
-use Rattle.rules.specs.Report.{stop-line, refusal-line, report, Filled, report-call}
 use Rattle.rules.proofs.Causes.{why-failed}
 use Rattle.rules.proofs.Ordered.{ordered}
-use Rattle.rules.proofs.Few.{only-twelve}
-use Rattle.rules.proofs.Sessions.{commands-of, final, session-final, stop-final, reply-final, stop-unopened, reply-unopened, report-unopened}
+use Rattle.rules.proofs.Sessions.{commands-of, final, session-final, stop-final, reply-final, stop-unopened, reply-unopened}
 use Rattle.wire.specs.declared.Opened.the-variants.{Bad}
 use Rattle.wire.specs.Meaning.{opened}
 use Rattle.wire.proofs.Header.{opens-has}
 use Rattle.wire.proofs.Opening.{Opening, unopened}
-use Rattle.text.specs.Wrote.{Wrote}
-use Rattle.text.proofs.Writing.{wrote-front}
 use Rattle.session.specs.declared.Stop.{Stop}
 use Rattle.session.specs.declared.Stop.the-variants.{End, Refused}
 use Rattle.session.specs.declared.Reply.{Reply}
@@ -92,10 +87,6 @@ module _ (b : List ℕ) (e : Bad ≡ opened b) where
   pub stop-bad : stop-of (Refused 0 1 0) ≡ calls.stop b
   stop-bad = sym (stop-unopened b (unopened b e))
 
-  pub report-bad : refusal-line 0 1 ≡ report b
-  unfolding stop-line
-  report-bad = sym (report-unopened b (unopened b e))
-
 -- ---- The part shown
 
 -- the number of a part, which the host reads as that part
@@ -134,18 +125,3 @@ near-part n s p c k q w = rw q at w
 pub told : (b : List ℕ) (r : Reply) {n : ℕ} → reply-of r ≡ calls.reply b → (n ≡ answer-code (reply-of r)) × (answer-of n ≡ reply-of r)
     → (n ≡ answer-code (calls.reply b)) × ((answer-of n ≡ calls.reply b) × (WhyFailed × AlwaysOrdered))
 told b r e c = (c .0 ∙ ap answer-code e, (c .1 ∙ e, (why-failed, ordered)))
-
--- ---- The buffer
-
-module _ (b l : List ℕ) where
-  pub short-buffer : length l < min-buffer → _≡_ {A = Filled} (record { size = 0; buffer = l }) (report-call b l)
-  unfolding report-call
-  short-buffer h = rw (lt-ltb (length l) min-buffer h)
-
-  pub filled : {m x : List ℕ} {r u : ℕ} → min-buffer ≤ length l → u ≤ min-buffer → x ≡ report b → Wrote l 0 x u r m → _≡_ {A = Filled} (record { size = r; buffer = m }) (report-call b l)
-  unfolding report-call
-  filled h k e w = wrote-front w (omega arith) ∙ rw (le-ltb (length l) min-buffer h, e)
-
-  -- length 0 is 12's
-  pub not-empty : {r : ℕ} {m : List ℕ} → _≡_ {A = Filled} (record { size = r; buffer = m }) (report-call b l) → r ≡ 0 → length l < min-buffer
-  not-empty e z = only-twelve b l (ap (λ (x : Filled). x .size) (sym e) ∙ z)

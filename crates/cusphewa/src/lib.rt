@@ -1,6 +1,4 @@
-// The calls on a session: its report, its answer, the part that is shown; writing a session and reading it back. `states` and `answers` have one call each
-// more.
-use limits::MIN_BUFFER;
+// The calls on a session: its answer, the part that is shown; writing a session and reading it back. `reports`, `states` and `answers` have one call each.
 use listing::Listed;
 use session::Ended;
 use session::Reply;
@@ -8,19 +6,12 @@ use session::Stop;
 use wire::Opened;
 use writing::Written;
 ghost use mathlib.Core.Path.{_≡_};
-ghost use Prim.Native.Nat.{_<_, _≤_, min};
+ghost use Prim.Native.Nat.{min};
 ghost use lib.ListN.{length};
-ghost use Rattle.rules.specs.Demand3.{SessionDemand3};
-ghost use Rattle.rules.specs.Neighbours.{SessionNeighbours};
-ghost use Rattle.rules.specs.Changes.{SessionChanges};
-ghost use Rattle.rules.specs.Eight.{NeverEight};
 ghost use Rattle.rules.specs.Causes.{WhyFailed};
-ghost use Rattle.rules.specs.Counter.{AlwaysAddsMarks};
 ghost use Rattle.rules.specs.Ordered.{AlwaysOrdered};
 ghost use Rattle.rules.specs.Agreeing.{Agrees, WritesAsRun, WrittenRuns};
-ghost use Rattle.rules.specs.Sizes.{min-buffer};
 ghost use Rattle.rules.specs.Calls as calls;
-ghost use Rattle.rules.specs.Report as rules;
 ghost use Rattle.rules.specs.Writing as lists;
 ghost use Rattle.wire.specs.Meaning.{opened};
 ghost use Rattle.wire.specs.declared.Opened.the-variants.{Header};
@@ -30,33 +21,6 @@ ghost use Rattle.codes.specs.Codes.{answer-code, NearReply, told-call, last-pla
 ghost use Rattle.codes.specs.Decoding.{answer-of, outcome-in, as-told, part-in};
 ghost use Rattle.cusphewa.specs.Codes.{part-code, Near};
 ghost use Rattle.writing.specs.Meaning.{heading-of};
-
-// ---- The report
-
-// The whole-session call, for the host: the report's length, or 0 where the buffer is too short, which is then untouched.
-#[no_mangle]
-pub extern "C" fn cusphewa_report(session: &[u8], report: &mut [u8]) -> usize
-    ensures { λ r. ⌜ record { size = r; buffer = now (report .exit) } ≡ rules.report-call (now (session .entry)) (now (report .entry)) ⌝ }
-    ensures demand3 { λ _. ⌜ SessionDemand3 (now (session .entry)) ⌝ }
-    ensures neighbours { λ _. ⌜ SessionNeighbours (now (session .entry)) ⌝ }
-    ensures changes { λ _. ⌜ SessionChanges (now (session .entry)) ⌝ }
-    ensures eight { λ _. ⌜ NeverEight (now (session .entry)) ⌝ }
-    ensures marks { λ _. ⌜ AlwaysAddsMarks ⌝ }
-    ensures fits { λ r. ⌜ r ≤ length (now (report .entry)) ⌝ }
-    ensures only_12 { λ r. ⌜ (r ≡ 0 → length (now (report .entry)) < min-buffer) ⌝ }
-{
-    if report.len() < MIN_BUFFER {
-        return 0;
-    }
-    let header = wire::read_header(session);
-    match header {
-        Opened::Bad => text::refusal_line(report, 0, 0, 1),
-        Opened::Header(nodes, sheets) => {
-            let e = session::run(session, report, nodes, sheets);
-            e.size
-        }
-    }
-}
 
 // ---- The answer
 

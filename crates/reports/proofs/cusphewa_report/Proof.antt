@@ -8,10 +8,10 @@ use Rattle.rules.proofs.Changes.{session-changes}
 use Rattle.rules.proofs.Eight.{never-eight}
 use Rattle.rules.proofs.Counter.{always-adds-marks}
 use Rattle.text.proofs.Writing.{wrote-end}
-use Rattle.cusphewa.proofs.Laws.{short-buffer, filled, not-empty, report-bad}
+use Rattle.reports.proofs.Laws.{short-buffer, filled, not-empty, report-bad}
 use borrow.Author.Needs.{needs}
-use Rattle.cusphewa.proofs.cusphewa_report.Statement.{statement}
-use Rattle.cusphewa.proofs.cusphewa_report.Tie as tie
+use Rattle.reports.proofs.cusphewa_report.Statement.{statement}
+use Rattle.reports.proofs.cusphewa_report.Tie as tie
 
 returns : tie.Need-returns
 returns c = let b = c .before .before .before .args .session .now in let h : Bytes b = λ i. omega (arith, c .before .before .shared-slice-known .given i) in (short-buffer _ _ (c .if1 .taken), (session-demand3 b, (session-neighbours b h, (session-changes b, (never-eight b, (always-adds-marks, (omega arith, λ _. c .if1 .taken)))))))
