@@ -1,14 +1,14 @@
 -- The pass's needs, each as one law in plain variables.
-use Prim.Native.Nat.{ℕ, suc, _+_, _-_, _*_, _≤_, _<_}
+use Prim.Native.Nat.{ℕ, suc, _+_, _-_, _≤_, _<_}
 use mathlib.Core.Path.{_≡_, refl, sym, ap, _∙_}
 use mathlib.Core.Bool.{true}
-use mathlib.Core.List.{List, [], _∷_, _++_, map, map-append, append-assoc, append-nil}
+use mathlib.Core.List.{List, [], _∷_, _++_, map, map-append, append-assoc}
 use mathlib.Core.Option.{none, some}
 use native.Mathlib.Omega.{arith}
 use lib.ListN.{length, take, drop, length-drop, length-map}
 use Rattle.rules.specs.Sizes.{max-session, max-commands}
-use Rattle.rules.specs.Bytes.{header, opens, byte, Command, unknown, cut, whole, ended, stopped, Step as Stepping, Reading, more, read-from}
-use Rattle.rules.specs.State.{State, fresh}
+use Rattle.rules.specs.Bytes.{opens, Command, whole, ended, stopped, Step as Stepping, Reading, more, read-from}
+use Rattle.rules.specs.State.{State}
 use Rattle.rules.specs.Steps.{check, pass, refuse, effect, answer}
 use Rattle.rules.specs.Calls.{answers, refusal}
 use Rattle.rules.specs.Calls as calls
@@ -34,7 +34,7 @@ use Rattle.tally.specs.Figures.{figures}
 use Rattle.session.specs.declared.Reply.{Reply}
 use Rattle.session.specs.declared.Reply.the-variants as reply
 use Rattle.session.specs.Meaning.{refusal-in, reply-to, reply-of, NearLast}
-use Rattle.session.specs.Looping.{Begins, Looping}
+use Rattle.session.specs.Looping.{Begins}
 use Rattle.session.proofs.Needs as needs
 use Rattle.session.proofs.Turn.{moved, stayed}
 use Rattle.codes.specs.Codes.{answer-code, NearReply}

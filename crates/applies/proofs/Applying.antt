@@ -1,7 +1,7 @@
 -- APPLY's tests, and what its two loops leave: its rule's effect.
 use Prim.Native.Nat.{ℕ, _+_, _≤_, _<_}
 use mathlib.Core.Path.{_≡_, refl, sym, ap, _∙_, fun-ext}
-use mathlib.Core.Bool.{Bool, true, false, not, _&&_, cond, and-true, and-false}
+use mathlib.Core.Bool.{Bool, true, false, not, _&&_, cond, and-comm, and-true, and-false}
 use mathlib.Core.Logic.{_≢_}
 use mathlib.Core.List.{List, []}
 use native.Mathlib.Omega.{arith}
@@ -12,25 +12,28 @@ use Rattle.rules.specs.Bytes.{Header, Apply}
 use Rattle.rules.specs.Table.{any}
 use Rattle.rules.specs.State.{Sheet, State, is-committed}
 use Rattle.rules.specs.Steps.{mem, without, receives, apply-save}
-use Rattle.rules.proofs.Table.{bool, same?, below?, clash, any-cong}
-use Rattle.rules.proofs.Places.{entries, entries-in, entries-out, entries-cong, entries-without}
+use Rattle.rules.proofs.Table.{bool, same?, below?, any-cong}
+use Rattle.rules.proofs.Places.{entries, entries-cong, entries-without}
 use Rattle.rules.proofs.Counter.{adds-marks}
 use Rattle.sets.specs.Bit.{in-row}
 use Rattle.sets.proofs.Bits.{bit-none}
 use Rattle.state.specs.Slices.{slices}
-use Rattle.state.specs.View.{out-of-phase, part, in-set, owner-in, placed, place-in, order-in, queued, shown, no-tally, advanced, COPIED, WRITTEN, CLAIM, CLAIM-X, HELD, OWNED, PHASE, NODES, TAKEN}
+use Rattle.state.specs.View.{out-of-phase, part, in-set, owner-in, placed, place-in, order-in, queued, shown, no-tally, advanced, COPIED, WRITTEN, CLAIM, CLAIM-X, HELD, OWNED, PHASE, NODES}
 use Rattle.state.specs.Fit.{Ready}
 use Rattle.state.specs.Lent.{applying, Moves, Keeps}
 use Rattle.state.specs.declared.Answer.the-variants.{Accepted, Refused}
+use Rattle.state.proofs.Codes.{committed-code, written-code}
+use Rattle.state.proofs.Keeping.{Ahead, placed-same, place-same, entries-ahead, entries-taken, entries-sets, entries-owner}
+use Rattle.state.proofs.Known.{owner-row, held-row}
 use Rattle.state.proofs.OutOfPhase.{over-tests}
-use Rattle.state.proofs.Parts.{part-in, part-past, flat-in, member-in, member-past, set-in, queue-past}
+use Rattle.state.proofs.Parts.{part-in, part-past, flat-in, queue-past}
+use Rattle.state.proofs.Rows.{set-row, set-none, common}
 use Rattle.state.proofs.Steps.{refused, accepted, same-state}
+use Rattle.state.proofs.Waiting.{mem-entries}
 use Rattle.leaving.specs.Left.{Left}
-use Rattle.leaving.proofs.Stands.{row-left, table-left, place-left, placed-left, sets-left, owner-left, kept-left}
+use Rattle.leaving.proofs.Stands.{left, row-left, kept-left}
 use Rattle.applies.specs.Carry.{sheet-in, Received, Counts}
-use Rattle.applies.proofs.Common.{committed-code, written-code}
 use Rattle.applies.proofs.Carry.{received-none, received-same}
-use Rattle.leaving.proofs.Rows.{common}
 
 -- a refused command does not count among the accepted
 pub not-accepted : (r : ℕ) → Refused r ≡ Accepted → ⊥
@@ -44,12 +47,6 @@ Done m n t b s q value w s′ q′ w′ =
 
 -- ---- The rules' tests by their numbers and sets
 
-swap : (a b : Bool) → (a && b) ≡ (b && a)
-swap true true = refl
-swap true false = refl
-swap false true = refl
-swap false false = refl
-
 module _ {m : ℕ} {b s q : List ℕ} (ready : Ready m b s q) (n t : ℕ) (ln : n < getD b NODES 0) (t32 : t < 32) where
   pub node8 : n < 8
   node8 = let z : getD b NODES 0 ≤ 8 = ready .known .nodes8 in omega arith
@@ -57,24 +54,10 @@ module _ {m : ℕ} {b s q : List ℕ} (ready : Ready m b s q) (n t : ℕ) (ln : 
   abbrev queue : ℕ → List ℕ
   queue k = entries (order-in b) (place-in q) (queued m q k) (placed q)
 
-  owns-code : (k : ℕ) → k < m → eqb (owner-in m s 8 k) n ≡ in-row s (OWNED + n) k
-  owns-code k h = sym (ready .kept .sets .owners n k node8 h) ∙ member-in m s (OWNED + n) k h
-
-  set-code : (r k : ℕ) → k < m → in-set m r s t k ≡ in-row s (r + t) k
-  set-code r k h = set-in m r s t k t32 ∙ member-in m s (r + t) k h
-
-  -- who has an entry is in the sheet's set, and the sheet in its own
-  queued-code : (k : ℕ) → k < m → queued m q k t ≡ in-row s (HELD + t) k
-  queued-code k h = sym (ready .kept .queues .held t k t32 h) ∙ set-code HELD k h
-
-  mem-code : (k : ℕ) → k < m → mem t (queue k) ≡ queued m q k t
-  mem-code k h = bool (queued m q k t)
-      (λ e. let p = ready .kept .queues .listed t k h e in entries-in (order-in b) (place-in q) (queued m q k) (placed q) t (p .0) (p .1) e ∙ sym e)
-      (λ e. bool (mem t (queue k)) (λ y. entries-out (order-in b) (place-in q) (queued m q k) (placed q) t y (λ _ _ z. clash (queued m q k t) z e)) (λ y. y ∙ sym e))
-
   has-code : any m (λ k. eqb (owner-in m s 8 k) n && mem t (queue k)) ≡ any m (common s (HELD + t) (OWNED + n))
   has-code = any-cong m (λ k. eqb (owner-in m s 8 k) n && mem t (queue k)) (common s (HELD + t) (OWNED + n))
-      (λ k h. rw (owns-code k h, mem-code k h, queued-code k h) (swap (in-row s (OWNED + n) k) (in-row s (HELD + t) k)))
+      (λ k h. rw (owner-row (ready .kept) h n node8, mem-entries (order-in b) (place-in q) (queued m q k) (placed q) (ready .kept .queues .listed t k h), held-row (ready .kept) h t32)
+      (and-comm (in-row s (OWNED + n) k) (in-row s (HELD + t) k)))
 
   module _ {p : ℕ} (read : p ≡ getD b (PHASE + t) 0) (value w : List ℕ) where
     phase-code : part PHASE 32 b t ≡ p
@@ -91,11 +74,14 @@ module _ {m : ℕ} {b s q : List ℕ} (ready : Ready m b s q) (n t : ℕ) (ln : 
 
       module _ (has : h ≡ true) {s′ q′ w′ : List ℕ} (g : Left m t (common s (HELD + t) (OWNED + n)) s q s′ q′)
           (got : Received m t value (λ k. eqb p 4 && common s′ (OWNED + n) (WRITTEN + t) k) w w′) where
+        ahead : Ahead q q′
+        ahead = entries-ahead (left g)
+
         -- t goes from the queues of the node's sheets
         queue-code : (k u : ℕ) → queued m q′ k u ≡ cond (eqb (owner-in m s 8 k) n) (queued m q k u && not (eqb u t)) (queued m q k u)
         queue-code k u = below? k m
-            (λ l. rw (g .queue k u l, owns-code k l) (bool (in-row s (OWNED + n) k)
-            (λ e. rw (e, and-true (in-row s (HELD + t) k), ← queued-code k l) (same? u t
+            (λ l. rw (g .queue k u l, owner-row (ready .kept) l n node8) (bool (in-row s (OWNED + n) k)
+            (λ e. rw (e, and-true (in-row s (HELD + t) k), ← held-row (ready .kept) l t32) (same? u t
             (λ z. rw (z, eq-eqb t t refl) (own (queued m q k t)))
             (λ z. rw (ne-eqb u t z, and-false (queued m q k t)))))
             (λ e. rw (e, and-false (in-row s (HELD + t) k)) (and-true (queued m q k u)))))
@@ -110,7 +96,7 @@ module _ {m : ℕ} {b s q : List ℕ} (ready : Ready m b s q) (n t : ℕ) (ln : 
             past false = refl
 
         queue-left : (k : ℕ) → entries (order-in b) (place-in q′) (queued m q′ k) (placed q′) ≡ cond (eqb (owner-in m s 8 k) n) (without t (queue k)) (queue k)
-        queue-left k = rw (place-left g, placed-left g) (bool (eqb (owner-in m s 8 k) n)
+        queue-left k = rw (place-same ahead, placed-same ahead) (bool (eqb (owner-in m s 8 k) n)
             (λ e. rw (e, entries-without (order-in b) (place-in q) (queued m q k) t (placed q))
             (entries-cong (order-in b) (place-in q) (queued m q′ k) (λ u. queued m q k u && not (eqb u t)) (placed q) (λ u. queue-code k u ∙ rw e)))
             (λ e. rw e (entries-cong (order-in b) (place-in q) (queued m q′ k) (queued m q k) (placed q) (λ u. queue-code k u ∙ rw e))))
@@ -126,8 +112,8 @@ module _ {m : ℕ} {b s q : List ℕ} (ready : Ready m b s q) (n t : ℕ) (ln : 
           phase-code,
           committed-code p,
           written-code (in-set m COPIED s t k) (in-set m WRITTEN s t k),
-          owns-code k l,
-          set-code WRITTEN k l,
+          owner-row (ready .kept) l n node8,
+          set-row m s WRITTEN t32 k l,
         ) (front (eqb p 4) (in-row s (OWNED + n) k) (in-row s (WRITTEN + t) k))
           where
             front : (a b c : Bool) → (a && (b && c)) ≡ (b && (a && c))
@@ -138,8 +124,7 @@ module _ {m : ℕ} {b s q : List ℕ} (ready : Ready m b s q) (n t : ℕ) (ln : 
         gets-past : (k : ℕ) → m ≤ k → receives before n t k ≡ false
         gets-past k l = rw (
           written-code (in-set m COPIED s t k) (in-set m WRITTEN s t k),
-          set-in m WRITTEN s t k t32,
-          member-past m s (WRITTEN + t) k l,
+          set-none m s WRITTEN t32 k l,
           and-false (is-committed (before .phase t)),
         ) (and-false (eqb (owner-in m s 8 k) n))
 
@@ -152,18 +137,18 @@ module _ {m : ℕ} {b s q : List ℕ} (ready : Ready m b s q) (n t : ℕ) (ln : 
         apply-steps x = accepted
             (λ tally. rw (lt-ltb n (getD b NODES 0) ln, lt-ltb t 32 t32, phase-code, over-tests _ p, le-leb 4 p over, has-code, ← eh, has))
             (λ tally. same-state
-            (ap {B = Header} (λ (o : ℕ → ℕ). record { nodes = getD b NODES 0; sheets = m; owner = o }) (owner-left g t32))
+            (ap {B = Header} (λ (o : ℕ → ℕ). record { nodes = getD b NODES 0; sheets = m; owner = o }) (entries-owner (left g) t32))
             sheet-code
             (fun-ext queue-left)
             refl
-            (fun-ext (λ u. fun-ext (λ k. rw (sets-left g COPIED (omega arith), sets-left g WRITTEN (omega arith)))))
+            (fun-ext (λ u. fun-ext (λ k. rw (entries-sets (left g) COPIED (omega arith), entries-sets (left g) WRITTEN (omega arith)))))
             refl
-            (fun-ext (λ u. fun-ext (λ k. rw (sets-left g CLAIM (omega arith), sets-left g CLAIM-X (omega arith)))))
+            (fun-ext (λ u. fun-ext (λ k. rw (entries-sets (left g) CLAIM (omega arith), entries-sets (left g) CLAIM-X (omega arith)))))
             refl
             refl
-            (rw (placed-left g))
-            (place-left g)
-            (table-left g TAKEN 8 (omega arith))
+            (rw (placed-same ahead))
+            (place-same ahead)
+            (entries-taken (left g))
             refl)
             (λ tally. refl)
 

@@ -9,20 +9,18 @@ use native.Mathlib.Numerals.{add-one}
 use native.Mathlib.Nat.{zero-add}
 use lib.ListN.{getD, set, length-set}
 use lib.Seq.{getD-set-same, getD-set-other}
-use lib.Dec.{eqb, ltb}
+use lib.Dec.{eqb}
 use borrow.Author.Tests.{eq-eqb, ne-eqb, lt-ltb, le-ltb}
 use Rattle.rules.specs.State.{Sheet, store}
 use Rattle.rules.proofs.Table.{same?, below?}
 use Rattle.sets.specs.Bit.{bit, low, Rest, word, blocks}
-use Rattle.sets.specs.Loop.{Over, done}
-use Rattle.sets.proofs.Loops.{block-of, over-first, low-small, low-in, over-on, done-none, done-all}
+use Rattle.sets.specs.Loop.{Over, done, of-block, before-block}
+use Rattle.sets.proofs.Loops.{block-of, over-first, low-small, over-on, done-none, done-all, not-done, done-more, before-first, next-block}
 use Rattle.state.specs.View.{part}
 use Rattle.state.specs.Fit.{Table, Rising}
 use Rattle.state.proofs.Parts.{part-in, part-past}
-use Rattle.leaving.specs.Left.{of-block, Inside}
-use Rattle.leaving.proofs.Common.{not-yet, one-more, next-block}
+use Rattle.state.proofs.Rows.{common, common-at}
 use Rattle.applies.specs.Carry.{sheet-in, Received, RisingIn}
-use Rattle.leaving.proofs.Rows.{common, common-at}
 
 -- ---- One sheet
 
@@ -116,25 +114,22 @@ module _ {m t j ours : ℕ} {value : List ℕ} where
 
 -- a turn, by the code's digit c
 module _ {m t j ours : ℕ} {value w₀ w : List ℕ} {left : ℕ} (g : Storing m t j ours value w₀ w left) (some : left ≢ 0) (c : ℕ) (ec : c ≡ low left) where
-  pub at-digit : Inside m j ours → (c < 64) × (64 * j + c < m)
-  at-digit inside = rw ec (low-small (g .over) some, inside (low left) (low-small (g .over) some) (low-in (g .over) some))
-
   pub at-sheets : Table 2 m w₀ → Table 2 m w
   at-sheets h = rw (g .got .long) h
 
   pub rises-here : RisingIn m j w₀ → part m m w (64 * j + c) < 65535
-  rises-here h = rw ec (rw (still (g .got) (64 * j + low left) (not-yet (g .over) some j)) (h (64 * j + low left) (block-of j (low left) (low-small (g .over) some))))
+  rises-here h = rw ec (rw (still (g .got) (64 * j + low left) (not-done (g .over) some j)) (h (64 * j + low left) (block-of j (low left) (low-small (g .over) some))))
 
   pub storing-step : {r : ℕ} {w₁ : List ℕ} → Rest left r → Received m t value (λ k. eqb k (64 * j + c)) w w₁ → Storing m t j ours value w₀ w₁ r
-  storing-step e a = record { over = over-on (g .over) some e; got = received-both (g .got) (rw ec at a) (λ k _. one-more (g .over) some j e k) }
+  storing-step e a = record { over = over-on (g .over) some e; got = received-both (g .got) (rw ec at a) (λ k _. done-more (g .over) some j e k) }
 
 -- ---- Block after block: the blocks before j are done
 
 pub record Carried (m t a b : ℕ) (s value w₀ w : List ℕ) (j : ℕ) : Type 0 where
-  pub got : Received m t value (λ k. ltb (k / 64) j && common s a b k) w₀ w
+  pub got : Received m t value (before-block j (common s a b)) w₀ w
 
 pub carried-first : (m t a b : ℕ) (s value w : List ℕ) → Carried m t a b s value w w 0
-carried-first m t a b s value w = record { got = received-none w (λ k l. rw (le-ltb (k / 64) 0 (omega arith))) }
+carried-first m t a b s value w = record { got = received-none w (λ k _. before-first (common s a b) k) }
 
 module _ {m t a b : ℕ} {s value w₀ w : List ℕ} {j : ℕ} (g : Carried m t a b s value w₀ w j) where
   pub rises-on : Rising m w₀ → RisingIn m j w

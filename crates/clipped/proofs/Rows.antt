@@ -1,7 +1,7 @@
 -- Texts one after the other, as a loop writes them: one more for each number, in room for as many.
 use mathlib.Core.Path.{_≡_, refl, ap, _∙_}
 use mathlib.Core.List.{List, [], _∷_, _++_, append-nil, append-assoc}
-use Prim.Native.Nat.{ℕ, zero, suc, _+_, _*_, _≤_, _<_}
+use Prim.Native.Nat.{ℕ, suc, _+_, _*_, _≤_, _<_}
 use native.Mathlib.Numerals.{add-one}
 use native.Mathlib.Nat.{mul-le-mul-right}
 use native.Mathlib.Omega.{arith}
@@ -33,10 +33,6 @@ module _ (f : ℕ → List ℕ) where
   unfolding each
   each-then [] vs = refl
   each-then (u ∷ us) vs = append-assoc (f u) (each f us) (each f vs) ∙ ap (λ t. f u ++ t) (each-then us vs)
-
-  pub each-none : each f [] ≡ []
-  unfolding each
-  each-none = refl
 
   pub each-one : (u : ℕ) → each f (u ∷ []) ≡ f u
   unfolding each

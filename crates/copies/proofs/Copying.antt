@@ -19,12 +19,14 @@ use Rattle.state.specs.View.{as-phase, out-of-phase, mark-of, part, in-set, sho
 use Rattle.state.specs.Fit.{Table}
 use Rattle.state.specs.Lent.{Steps}
 use Rattle.state.proofs.Codes.{second-code}
+use Rattle.state.proofs.Keeping.{header-beside, claim-beside}
 use Rattle.state.proofs.OutOfPhase.{out-refuses, running-tests}
-use Rattle.state.proofs.Parts.{part-in, flat-in, member-in, set-in}
+use Rattle.state.proofs.Parts.{part-in, flat-in}
+use Rattle.state.proofs.Rows.{set-row}
 use Rattle.state.proofs.Steps.{refused, accepted, same-state}
 use Rattle.state.proofs.Tables.{upd2-by}
 use Rattle.copies.specs.Barred.{barred-by}
-use Rattle.copies.proofs.Common.{Joined, beside-header, beside-claim}
+use Rattle.copies.proofs.Joining.{Joined}
 use Rattle.copies.proofs.Marks.{marks, Within, copies, mark-copied, copied-beside, mark-written, written-beside, copy-made, copy-written}
 
 -- ---- Marks by the sets
@@ -51,7 +53,7 @@ not-written m s t k w e = bool (in-set m WRITTEN s t k) (λ z. clash (in-set m C
 
 -- as the code reads it
 pub copied-read : (m : ℕ) (s : List ℕ) (t k : ℕ) → t < 32 → k < m → {c : Bool} → c ≡ in-row s (COPIED + t) k → in-set m COPIED s t k ≡ c
-copied-read m s t k a b e = set-in m COPIED s t k a ∙ member-in m s (COPIED + t) k b ∙ sym e
+copied-read m s t k a b e = set-row m s COPIED a k b ∙ sym e
 
 -- ---- The first tests
 
@@ -151,9 +153,9 @@ module _ (m : ℕ) (x : Slices) (t k : ℕ) {r : ℕ} (e : r ≡ barred-by m (x 
       read-new b lv ls {v} {c} ev ec j =
           accepted
           (read-last false b)
-          (λ tally. rw (n, none) (same-state (beside-header (copied-beside t-in j) (x .bytes)) refl refl refl (mark-copied t-in j none)
+          (λ tally. rw (n, none) (same-state (header-beside (copied-beside t-in j) (x .bytes) (x .bytes) refl) refl refl refl (mark-copied t-in j none)
           (copy-made m (x .value) (x .seen) t k t-in k-in v lv c ls ∙ rw (ev, ec))
-          (beside-claim (copied-beside t-in j)) refl refl refl refl refl refl))
+          (claim-beside (copied-beside t-in j)) refl refl refl refl refl refl))
           (λ tally. rw (n, none, ev))
 
     -- ---- WRITE
@@ -167,7 +169,7 @@ module _ (m : ℕ) (x : Slices) (t k : ℕ) {r : ℕ} (e : r ≡ barred-by m (x 
       writes c lv j =
           accepted
           (λ tally. by-number _ ∙ rw (z, some-mark (in-set m COPIED (x .sets) t k) (in-set m WRITTEN (x .sets) t k) c))
-          (λ tally. same-state (beside-header (written-beside t-in j) (x .bytes)) refl refl refl (mark-written t-in j)
+          (λ tally. same-state (header-beside (written-beside t-in j) (x .bytes) (x .bytes) refl) refl refl refl (mark-written t-in j)
           (copy-written m (x .value) (x .seen) t k t-in k-in v lv)
-          (beside-claim (written-beside t-in j)) refl refl refl refl refl refl)
+          (claim-beside (written-beside t-in j)) refl refl refl refl refl refl)
           (λ tally. refl)

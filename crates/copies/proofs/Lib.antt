@@ -1,5 +1,5 @@
-pub mod Common
 pub mod Copying
+pub mod Joining
 pub mod Marks
 pub mod Reading
 pub mod Writing

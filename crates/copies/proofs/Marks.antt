@@ -12,9 +12,10 @@ use Rattle.sets.specs.Bit.{stride, blocks}
 use Rattle.state.specs.View.{mark-of, in-set, flat, COPIED, WRITTEN, CLAIM, rows}
 use Rattle.state.specs.Fit.{Table, Kept}
 use Rattle.state.proofs.Cells.{row-fits, cell-in}
+use Rattle.state.proofs.Keeping.{Beside, kept-beside}
 use Rattle.state.proofs.Parts.{flat-set}
 use Rattle.state.proofs.Tables.{upd2-by}
-use Rattle.copies.proofs.Common.{Joined, set-joined, set-beside, Beside, kept-beside}
+use Rattle.copies.proofs.Joining.{Joined, set-joined, set-beside}
 
 -- ---- Sizes
 

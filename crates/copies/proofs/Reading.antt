@@ -10,16 +10,17 @@ use Rattle.rules.specs.Bytes.{Read}
 use Rattle.rules.specs.Steps.{at-front, x-on}
 use Rattle.sets.specs.Bit.{bit, word, in-row, stride}
 use Rattle.queues.specs.Front.{Ranked, fronted}
-use Rattle.queues.proofs.Fronts.{ranked, x-queued, front-code}
+use Rattle.queues.proofs.Fronts.{ranked, front-code}
 use Rattle.state.specs.declared.Answer.the-variants.{Content, Refused}
 use Rattle.state.specs.View.{part, in-set, queue-of, queue-x-of, queued, queued-x, bare, PHASE, COPIED, ORDER, QUEUE, rows}
 use Rattle.state.specs.Stored.{Stored}
 use Rattle.state.specs.Fit.{Table, Rising, Ready}
 use Rattle.state.specs.Lent.{all, Moves, Keeps}
 use Rattle.state.proofs.Cells.{cell-in, row-small}
+use Rattle.state.proofs.Known.{x-queued}
 use Rattle.state.proofs.Parts.{part-in}
 use Rattle.copies.specs.Barred.{barred-by}
-use Rattle.copies.proofs.Common.{joined}
+use Rattle.copies.proofs.Joining.{joined}
 use Rattle.copies.proofs.Marks.{row-in, table-set, word-in, kept-copied}
 use Rattle.copies.proofs.Copying.{copied-read, in-range, read-own, read-6, read-new}
 
@@ -67,7 +68,7 @@ module _ {m : ℕ} {b s q value seen w : List ℕ} (l : Lends m b s q value seen
   seen-fits = let h = cell-in m (there .0) (there .1) in omega (arith, l .counters)
 
   pub blocked-asked : (QUEUE + 2 * m ≤ length q) × (m < 65536) × (k < m) × Ranked q (queue-of m q k) × ((u : ℕ) → queued-x m q k u ≡ true → queued m q k u ≡ true)
-  blocked-asked = (l .ready .kept .sized .queues, l .ready .known .sheets16, there .1, ranked (l .ready .kept) k (there .1), x-queued (l .ready .kept) k (there .1))
+  blocked-asked = (l .ready .kept .sized .queues, l .ready .known .sheets16, there .1, ranked (l .ready .kept) k (there .1), x-queued (l .ready .kept) (there .1))
 
   -- the sheet's content and counter, of which the last fits
   content-read : {v : ℕ} → v ≡ getD w (0 * m + k) 0 → v ≡ part 0 m w k

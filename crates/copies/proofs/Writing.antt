@@ -11,17 +11,13 @@ use Rattle.sets.specs.Bit.{bit, word, in-row, stride}
 use Rattle.state.specs.declared.Answer.the-variants.{Accepted, Refused}
 use Rattle.state.specs.View.{in-set, COPIED, WRITTEN, rows}
 use Rattle.state.specs.Stored.{Stored}
-use Rattle.state.specs.Fit.{Table, Kept}
+use Rattle.state.specs.Fit.{Table}
 use Rattle.state.specs.Lent.{writing, Moves, Keeps}
 use Rattle.copies.specs.Barred.{barred-by}
 use Rattle.copies.specs.Copies.{Copies}
-use Rattle.copies.proofs.Common.{joined}
+use Rattle.copies.proofs.Joining.{joined}
 use Rattle.copies.proofs.Marks.{row-in, table-set, word-in, kept-written}
 use Rattle.copies.proofs.Copying.{copied-read, in-range, write-7, writes}
-
--- what is kept is enough
-pub copies-kept : {m : ℕ} {b s q : List ℕ} → Kept m b s q → Copies m b s
-copies-kept k = record { bytes = let z = k .sized .bytes in omega arith; sets = k .sized .sets; written = k .sets .written }
 
 pub keeps-same : (m : ℕ) (b s value : List ℕ) → Keeps m (writing b s value) (writing b s value)
 keeps-same m b s value x f = f

@@ -5,7 +5,8 @@ use mathlib.Core.Bool.{Bool, true, false, _&&_, cond}
 use mathlib.Core.Logic.{_≢_}
 use mathlib.Core.List.{List}
 use native.Mathlib.Omega.{arith}
-use lib.ListN.{length, getD, take}
+use native.Mathlib.Numerals.{add-one}
+use lib.ListN.{length, getD, set, take}
 use lib.Dec.{ltb}
 use borrow.Author.Tests.{ne-eqb, lt-ltb, le-ltb}
 use Rattle.rules.specs.Bytes.{Decide}
@@ -18,17 +19,18 @@ use Rattle.sets.specs.Bit.{blocks}
 use Rattle.state.specs.declared.Answer.{Answer}
 use Rattle.state.specs.declared.Answer.the-variants.{Commits, CommitsLater, SecondRun, Refused}
 use Rattle.state.specs.Slices.{Slices}
-use Rattle.state.specs.View.{out-of-phase, claim-of, set?, part, owner-in, place-in, placed, queued, shown, result-of, advanced, PHASE, FAILED, RUNS, NODES, CLAIM, CLAIM-X}
+use Rattle.state.specs.View.{out-of-phase, set?, part, place-in, placed, queued, shown, result-of, advanced, PHASE, FAILED, RUNS, ORDER}
 use Rattle.state.specs.Fit.{Ready, Kept}
 use Rattle.state.specs.Lent.{saving, Moves, Keeps}
+use Rattle.state.proofs.Bytes.{bytes-same, phase-stored, runs-stored, bytes-shown}
+use Rattle.state.proofs.Keeping.{header-beside, claim-beside}
+use Rattle.state.proofs.Known.{kept-byte}
 use Rattle.state.proofs.OutOfPhase.{submitted-tests}
 use Rattle.state.proofs.Parts.{part-in}
-use Rattle.state.proofs.Known.{kept-byte}
 use Rattle.state.proofs.Steps.{refused, accepted, same-state}
 use Rattle.decides.specs.Granting.{Fits, block-granted}
 use Rattle.decides.specs.Settling.{Settles, Settled}
-use Rattle.decides.proofs.Common.{phase-byte, run-bytes}
-use Rattle.decides.proofs.Copies.{set-kept, owner-kept, marks-cleared, kept-cleared}
+use Rattle.decides.proofs.Copies.{beside, marks-cleared, kept-cleared}
 use Rattle.decides.proofs.Granting.{taken-all, granted-all, tests-code}
 
 -- two tests with one number
@@ -48,13 +50,13 @@ module _ {m : ℕ} {b s q : List ℕ} (ready : Ready m b s q) (t : ℕ) (t32 : t
   pub fits : Fits m t s q
   fits = record { save = t32; sheets = ready .known .sheets16; sets = ready .kept .sized .sets; queues = ready .kept .sized .queues; ends = ready .kept .sets .ends }
 
-  long : NODES ≤ length b
+  long : ORDER ≤ length b
   long = let a = ready .kept .sized .bytes in omega arith
 
   pub settles : Settles m t b s
   settles = record {
     clears = record { save = t32; sheets = ready .known .sheets16; sets = ready .kept .sized .sets };
-    bytes = long;
+    bytes = let a = long in omega arith;
     runs = rw (part-in RUNS 32 b t t32) at (ready .known .runs t t32);
   }
 
@@ -96,17 +98,9 @@ module _ {m : ℕ} {b s q : List ℕ} (ready : Ready m b s q) (t : ℕ) (t32 : t
             f0 = part-in FAILED 32 b t t32 ∙ committed .0
 
             commits : {a : Answer} → ((tally : Tally) → advanced tally a ≡ counted-commit (ltb 1 r) tally) → result-of a ≡ answered rules.commits → Moves m (saving b s q) (Decide t) (saving b′ s′ q) a
-            commits count result x = let g = phase-byte b long t t32 4 in rw (committed .1, committed .2) (accepted
+            commits count result x = rw (committed .1, committed .2) (accepted
                 (passes x)
-                (λ tally. rw (f0, part-in RUNS 32 b t t32, ← runs) (same-state
-                (λ i. record { nodes = g .nodes i; sheets = m; owner = owner-in m s 8 })
-                refl
-                (λ i k. entries (g .order i) (place-in q) (queued m q k) (placed q))
-                (g .phases) refl refl refl
-                (λ i u. set? (g .failed i u))
-                (g .counts)
-                (λ i. take (placed q) (g .order i))
-                refl refl (count tally)))
+                (λ tally. rw (f0, part-in RUNS 32 b t t32, ← runs, count tally) (bytes-shown (phase-stored (bytes-same b) long t32 4) m (saving b s q x) (counted-commit (ltb 1 r) tally) tally))
                 (λ tally. rw f0 result))
 
             pub decide-first : r ≤ 1 → Moves m (saving b s q) (Decide t) (saving b′ s′ q) Commits
@@ -118,20 +112,20 @@ module _ {m : ℕ} {b s q : List ℕ} (ready : Ready m b s q) (t : ℕ) (t32 : t
           -- the run's number and phase, and no copy
           pub decide-again : c ≡ false → Moves m (saving b s q) (Decide t) (saving b′ s′ q) SecondRun
           decide-again n x = let z = subst (λ (c : Bool). Settled m t b s b′ s′ c) n st in
-              let g = run-bytes b long t t32 3 in
+              let g = runs-stored (phase-stored (bytes-same b) long t32 3) long t32 (getD b (RUNS + t) 0 + 1) in
               let f1 : set? (part FAILED 32 b t) ≡ true = rw (part-in FAILED 32 b t t32, ne-eqb (getD b (FAILED + t) 0) 0 (z .0)) in
               rw (z .1) (accepted
               (passes x)
               (λ tally. rw f1 (same-state
-              (λ i. record { nodes = g .nodes i; sheets = m; owner = owner-kept m t s s′ t32 (z .2) i })
+              (header-beside (beside m t s s′ t32 (z .2)) b (set (set b (PHASE + t) 3) (RUNS + t) (getD b (RUNS + t) 0 + 1)) (g .nodes))
               refl
               (λ i k. entries (g .order i) (place-in q) (queued m q k) (placed q))
-              (g .phases)
+              (g .phased)
               (marks-cleared m t s s′ t32 (z .2))
               refl
-              (λ i u k. claim-of (set-kept m t s s′ t32 (z .2) CLAIM (omega arith) (omega arith) i u k) (set-kept m t s s′ t32 (z .2) CLAIM-X (omega arith) (omega arith) i u k))
-              (λ i u. set? (g .failed i u))
-              (g .counts)
+              (claim-beside (beside m t s s′ t32 (z .2)))
+              (g .marked)
+              (g .counted ∙ rw (part-in RUNS 32 b t t32, add-one (getD b (RUNS + t) 0)))
               (λ i. take (placed q) (g .order i))
               refl refl refl))
               (λ tally. rw f1))

@@ -2,22 +2,23 @@
 use Prim.Native.Nat.{ℕ, _+_, _*_, _/_, _%_, _≤_, _<_}
 use mathlib.Core.Path.{_≡_, refl, sym, ap, _∙_, subst}
 use mathlib.Core.Bool.{Bool, true, false, not, _&&_, _||_, cond, and-true}
-use mathlib.Core.List.{List}
+use mathlib.Core.List.{List, [], _∷_}
 use native.Mathlib.Omega.{arith}
 use lib.ListN.{getD}
 use borrow.Author.Tests.{not-true}
 use Rattle.rules.specs.Table.{all, any}
 use Rattle.rules.specs.State.{State, claims}
-use Rattle.rules.specs.Steps.{holds, before, x-on, granted, has-taken}
+use Rattle.rules.specs.Steps.{holds, empty, before, x-on, granted, has-taken}
 use Rattle.rules.proofs.Table.{bool, below?, clash, and-i, and-l, and-r, all-at, all-intro, any-at, any-intro, any-none, any-fails, any-cong}
 use Rattle.sets.specs.Bit.{bit, word, blocks}
 use Rattle.state.specs.View.{part, in-set, queue-of, queue-x-of, queued, order-in, place-in, placed, bare, CLAIM, CLAIM-X, HELD, BEFORE, PHASE}
 use Rattle.state.specs.Fit.{Ready, Last}
+use Rattle.state.proofs.Codes.{claims-code}
+use Rattle.state.proofs.Known.{small, last-known, x-entries}
 use Rattle.state.proofs.Parts.{part-in, queue-in, queue-x-in, in-block}
-use Rattle.state.proofs.Known.{small, last-known}
-use Rattle.state.proofs.Waiting.{holds-before}
+use Rattle.state.proofs.Rows.{set-bit}
+use Rattle.state.proofs.Waiting.{mem-entries, holds-before}
 use Rattle.decides.specs.Granting.{same, way, in-ways, block-granted}
-use Rattle.decides.proofs.Common.{claims-code, set-bit, empty-holds, mem-listed, queued-exclusive}
 use Rattle.decides.proofs.Blocks.{same-true, same-refl}
 
 -- nothing else but what is taken
@@ -25,6 +26,11 @@ only : (c h : Bool) → (not c || h) ≡ same (c && h) c
 only true true = refl
 only true false = refl
 only false h = refl
+
+-- an empty list has nobody
+empty-holds : (l : List ℕ) → empty l ≡ not (holds (λ u. true) l)
+empty-holds [] = refl
+empty-holds (u ∷ l) = refl
 
 module _ {m : ℕ} {b s q : List ℕ} (ready : Ready m b s q) (t : ℕ) (t32 : t < 32) (two : part PHASE 32 b t ≡ 2) where
   abbrev now : State
@@ -48,7 +54,7 @@ module _ {m : ℕ} {b s q : List ℕ} (ready : Ready m b s q) (t : ℕ) (t32 : t
     claimed = claims-code (in-set m CLAIM s t k) (in-set m CLAIM-X s t k) (ready .kept .sets .claimed t k)
 
     held : in-set m HELD s t k ≡ (in-set m CLAIM s t k && has-taken now (now .header .owner k) t)
-    held = ready .kept .queues .held t k t32 km ∙ sym (mem-listed (order-in b) (place-in q) (queued m q k) (placed q) last) ∙ ready .known .waits t k (rw two) ∙ rw claimed
+    held = ready .kept .queues .held t k t32 km ∙ sym (mem-entries (order-in b) (place-in q) (queued m q k) (placed q) (λ _. last)) ∙ ready .known .waits t k (rw two) ∙ rw claimed
 
     pub taken-code : (not (claims (now .claim t k)) || has-taken now (now .header .owner k) t) ≡ same (in-set m HELD s t k) (in-set m CLAIM s t k)
     taken-code = rw (claimed, held) (only (in-set m CLAIM s t k) (has-taken now (now .header .owner k) t))
@@ -65,7 +71,7 @@ module _ {m : ℕ} {b s q : List ℕ} (ready : Ready m b s q) (t : ℕ) (t32 : t
     granted-code e = bool (in-set m CLAIM s t k)
         (λ y. let there : queued m q k t ≡ true = sym (ready .kept .queues .held t k t32 km) ∙ e ∙ y in bool (in-set m CLAIM-X s t k)
         (λ x. rw (y, x, empty-holds (before t (now .queue k)), queue-before (λ u. true) there) (ap not (any-cong 64 _ _ (λ u _. rw (and-true (queued m q k u))))))
-        (λ x. rw (y, x, queue-before (x-on (now .claim) k) there) (ap not (any-cong 64 _ _ (λ u _. rw (queued-exclusive (ready .kept) k km u))))))
+        (λ x. rw (y, x, queue-before (x-on (now .claim) k) there) (ap not (any-cong 64 _ _ (λ u _. rw (x-entries (ready .kept) km u))))))
         (λ n. bool (in-set m CLAIM-X s t k) (λ x. clash (in-set m CLAIM s t k) (ready .kept .sets .claimed t k x) n) (λ x. rw (n, x)))
 
   -- ---- A sheet of a block

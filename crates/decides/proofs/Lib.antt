@@ -1,4 +1,3 @@
-pub mod Common
 pub mod Looking
 pub mod Clearing
 pub mod Blocks

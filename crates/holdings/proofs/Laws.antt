@@ -1,6 +1,6 @@
 -- A save's line for a sheet by what the sets and tables have there.
 use Prim.Native.Nat.{ℕ, _+_, _*_, _<_}
-use mathlib.Core.Path.{_≡_, refl, sym, _∙_}
+use mathlib.Core.Path.{_≡_, sym, _∙_}
 use mathlib.Core.Bool.{Bool, true, false, _||_}
 use mathlib.Core.List.{List, [], _∷_, _++_}
 use native.Mathlib.Omega.{arith}
@@ -10,26 +10,17 @@ use Rattle.rules.specs.State.{State, claims, has-copy}
 use Rattle.rules.specs.Report.{line-end}
 use Rattle.rules.specs.Showing.{holding-head, copy-fields, copy-text, holding-line, holding-text}
 use Rattle.sets.specs.Bit.{in-row}
-use Rattle.state.specs.View.{claim-of, mark-of, in-set, COPIED, WRITTEN, CLAIM, CLAIM-X}
+use Rattle.state.specs.View.{in-set, COPIED, WRITTEN, CLAIM, CLAIM-X}
 use Rattle.state.specs.Fit.{Ready, Table}
-use Rattle.state.proofs.Parts.{part-in, flat-in, member-in, set-in, in-block}
+use Rattle.state.proofs.Codes.{copy-code, claims-code}
+use Rattle.state.proofs.Parts.{part-in, flat-in, in-block}
+use Rattle.state.proofs.Rows.{set-row}
 use Rattle.holdings.specs.Held.{claim-at, mark-at, Reach, Readable, held-by}
 
 pub readable : {m : ℕ} {b s q value seen w : List ℕ} → Ready m b s q → Table 32 m value → Table 32 m seen → Table 2 m w → Readable m s value seen w
 readable r v n w = record { few = r .known .sheets16; reach = r .kept .sized .sets; sets = r .kept .sets; values = v; counters = n; sheets = w }
 
 -- ---- By the sets
-
--- an X is a claim, and what is written is copied
-claims-of : (c x : Bool) → (x ≡ true → c ≡ true) → claims (claim-of c x) ≡ c
-claims-of c true h = sym (h refl)
-claims-of true false h = refl
-claims-of false false h = refl
-
-copy-of : (c x : Bool) → (x ≡ true → c ≡ true) → has-copy (mark-of c x) ≡ c
-copy-of c true h = sym (h refl)
-copy-of true false h = refl
-copy-of false false h = refl
 
 module _ {m : ℕ} {s value seen w : List ℕ} (r : Readable m s value seen w) (t k : ℕ) (th : t < 32) (km : k < m) where
   abbrev st : State
@@ -39,7 +30,7 @@ module _ {m : ℕ} {s value seen w : List ℕ} (r : Readable m s value seen w) (
   reaches = (th, let a = r .reach in let b = in-block m k km in omega arith)
 
   row-in : (i : ℕ) → in-set m i s t k ≡ in-row s (i + t) k
-  row-in i = set-in m i s t k th ∙ member-in m s (i + t) k km
+  row-in i = set-row m s i th k km
 
   claim-is : st .claim t k ≡ claim-at s t k
   claim-is = rw (row-in CLAIM, row-in CLAIM-X)
@@ -48,10 +39,10 @@ module _ {m : ℕ} {s value seen w : List ℕ} (r : Readable m s value seen w) (
   mark-is = rw (row-in COPIED, row-in WRITTEN)
 
   claimed : claims (st .claim t k) ≡ in-row s (CLAIM + t) k
-  claimed = rw claim-is (claims-of (in-row s (CLAIM + t) k) (in-row s (CLAIM-X + t) k) (λ e. sym (row-in CLAIM) ∙ r .sets .claimed t k (row-in CLAIM-X ∙ e)))
+  claimed = rw claim-is (claims-code (in-row s (CLAIM + t) k) (in-row s (CLAIM-X + t) k) (λ e. sym (row-in CLAIM) ∙ r .sets .claimed t k (row-in CLAIM-X ∙ e)))
 
   copied : has-copy (st .mark t k) ≡ in-row s (COPIED + t) k
-  copied = rw mark-is (copy-of (in-row s (COPIED + t) k) (in-row s (WRITTEN + t) k) (λ e. sym (row-in COPIED) ∙ r .sets .written t k (row-in WRITTEN ∙ e)))
+  copied = rw mark-is (copy-code (in-row s (COPIED + t) k) (in-row s (WRITTEN + t) k) (λ e. sym (row-in COPIED) ∙ r .sets .written t k (row-in WRITTEN ∙ e)))
 
   -- ---- The copy
 

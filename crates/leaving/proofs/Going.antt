@@ -11,12 +11,11 @@ use lib.Dec.{eqb}
 use borrow.Author.Tests.{eq-eqb, ne-eqb}
 use Rattle.rules.proofs.Table.{same?}
 use Rattle.sets.specs.Bit.{bit, low, Rest}
-use Rattle.sets.specs.Loop.{Over, done}
-use Rattle.sets.proofs.Loops.{over-first, low-small, low-in, over-on, done-none, done-all}
+use Rattle.sets.specs.Loop.{Over, done, of-block}
+use Rattle.sets.proofs.Loops.{over-first, over-on, done-none, done-all, done-more}
 use Rattle.state.specs.View.{queued, queued-x, QUEUE}
 use Rattle.state.proofs.Parts.{queue-in, queue-x-in}
-use Rattle.leaving.proofs.Common.{one-more}
-use Rattle.leaving.specs.Left.{Gone, of-block, Inside}
+use Rattle.leaving.specs.Left.{Gone}
 
 -- ---- One sheet
 
@@ -102,21 +101,13 @@ module _ {m t j ours : ℕ} where
   pub going-first : (q : List ℕ) → ours < 2 ^ 64 → Going m t j ours q q ours
   going-first q s = record { over = over-first ours s; gone = gone-none q (λ k l. rw (done-none ours (k % 64)) (and-false (eqb (k / 64) j))) }
 
-  -- one sheet more
-  module _ {q₀ q : List ℕ} {left : ℕ} (g : Going m t j ours q₀ q left) (some : left ≢ 0) {r : ℕ} (e : Rest left r) where
-    pub going-on : {q₁ : List ℕ} → Gone m t (λ k. eqb k (64 * j + low left)) q q₁ → Going m t j ours q₀ q₁ r
-    going-on a = record { over = over-on (g .over) some e; gone = gone-both (g .gone) a (λ k _. one-more (g .over) some j e k) }
-
   pub going-end : {q₀ q : List ℕ} {left : ℕ} → Going m t j ours q₀ q left → left ≡ 0 → Gone m t (of-block j (bit ours)) q₀ q
   going-end g e = gone-same (g .gone) (λ k l. rw (e, done-all ours (k % 64)))
 
--- the same by the code's digit c
-module _ {m t j ours : ℕ} {q₀ q : List ℕ} {left : ℕ} (g : Going m t j ours q₀ q left) (some : left ≢ 0) (inside : Inside m j ours) (c : ℕ) (ec : c ≡ low left) where
-  pub at-digit : (c < 64) × (64 * j + c < m)
-  at-digit = rw ec (low-small (g .over) some, inside (low left) (low-small (g .over) some) (low-in (g .over) some))
-
+-- one sheet more, by the code's digit c
+module _ {m t j ours : ℕ} {q₀ q : List ℕ} {left : ℕ} (g : Going m t j ours q₀ q left) where
   pub at-queues : QUEUE + 2 * m ≤ length q₀ → QUEUE + 2 * m ≤ length q
   at-queues h = rw (g .gone .long) h
 
-  pub going-step : {r : ℕ} {q₁ : List ℕ} → Rest left r → Gone m t (λ k. eqb k (64 * j + c)) q q₁ → Going m t j ours q₀ q₁ r
-  going-step e a = going-on g some e (rw (← ec) a)
+  pub going-step : left ≢ 0 → {c r : ℕ} {q₁ : List ℕ} → c ≡ low left → Rest left r → Gone m t (λ k. eqb k (64 * j + c)) q q₁ → Going m t j ours q₀ q₁ r
+  going-step some ec e a = record { over = over-on (g .over) some e; gone = gone-both (g .gone) (rw ec at a) (λ k _. done-more (g .over) some j e k) }

@@ -7,28 +7,27 @@ use mathlib.Core.List.{List}
 use native.Mathlib.Omega.{arith}
 use native.Mathlib.Numerals.{add-one}
 use lib.ListN.{length, set, length-set}
-use lib.Seq.{getD-set-same, getD-set-other}
-use lib.Dec.{ltb}
-use borrow.Author.Tests.{lt-ltb, le-ltb}
+use borrow.Author.Tests.{lt-ltb}
 use Rattle.rules.proofs.Table.{same?}
 use Rattle.sets.specs.Bit.{bit, word, in-row, stride, blocks}
+use Rattle.sets.specs.Loop.{of-block, before-block, Inside}
+use Rattle.sets.proofs.Loops.{before-first, next-block}
 use Rattle.state.specs.View.{HELD, rows}
 use Rattle.state.specs.Fit.{Ends}
-use Rattle.leaving.specs.Left.{Gone, of-block, Inside, Left}
-use Rattle.leaving.proofs.Common.{next-block}
-use Rattle.leaving.proofs.Rows.{common, in-reach, common-at, ours-inside}
+use Rattle.state.proofs.Rows.{in-reach, word-stored, word-beside, common, common-at, ours-inside}
+use Rattle.leaving.specs.Left.{Gone, Left}
 use Rattle.leaving.proofs.Going.{gone-none, gone-both, gone-same}
 
 -- the loop: the blocks before j are done
 pub record Blocks (m t i : ℕ) (s₀ q₀ s q : List ℕ) (j : ℕ) : Type 0 where
-  pub gone : Gone m t (λ k. ltb (k / 64) j && common s₀ (HELD + t) i k) q₀ q
+  pub gone : Gone m t (before-block j (common s₀ (HELD + t) i)) q₀ q
   pub long : length s ≡ length s₀
   pub held : (b c : ℕ) → b < j → bit (word s (HELD + t) b) c ≡ (bit (word s₀ (HELD + t) b) c && not (bit (word s₀ i b) c))
   pub same : (a b : ℕ) → a < rows → (a ≡ HELD + t → j ≤ b) → word s a b ≡ word s₀ a b
 
 pub blocks-first : (m t i : ℕ) (s q : List ℕ) → Blocks m t i s q s q 0
 blocks-first m t i s q = record {
-  gone = gone-none q (λ k l. rw (le-ltb (k / 64) 0 (omega arith)));
+  gone = gone-none q (λ k _. before-first (common s (HELD + t) i) k);
   long = refl;
   held = λ b c h. absurd (none h);
   same = λ a b h e. refl;
@@ -46,7 +45,7 @@ without-both false b = refl
 
 module _ {m t i : ℕ} {s₀ q₀ s q : List ℕ} {n j : ℕ} (g : Blocks m t i s₀ q₀ s q j) (en : n ≡ blocks m) (jn : j < n) (t32 : t < 32) (ir : i < rows) where
   pub reach : stride * blocks m + rows ≤ length s₀ + stride → (a : ℕ) → a < rows → a + stride * j < length s
-  reach l a h = rw (g .long) (in-reach m s₀ en jn l a h)
+  reach l a h = rw (g .long) (in-reach m en jn s₀ l a h)
 
   module _ (h x ours : ℕ) (eh : h ≡ word s (HELD + t) j) (ex : x ≡ word s i j) (eo : (c : ℕ) → bit ours c ≡ (bit h c && bit x c)) where
     held₀ : h ≡ word s₀ (HELD + t) j
@@ -63,11 +62,8 @@ module _ {m t i : ℕ} {s₀ q₀ s q : List ℕ} {n j : ℕ} (g : Blocks m t i 
 
     module _ (v : ℕ) {s₁ q₁ : List ℕ} (ev : (c : ℕ) → bit v c ≡ (bit h c && not (bit ours c))) (es : s₁ ≡ set s (HELD + t + stride * j) v) (a : Gone m t (of-block j (bit ours)) q q₁)
         (l : stride * blocks m + rows ≤ length s₀ + stride) where
-      here : word (set s (HELD + t + stride * j) v) (HELD + t) j ≡ v
-      here = getD-set-same s (HELD + t + stride * j) v 0 (reach l (HELD + t) (omega arith))
-
       there : (b y : ℕ) → b < rows → (b ≡ HELD + t → y ≢ j) → word (set s (HELD + t + stride * j) v) b y ≡ word s b y
-      there b y h d = getD-set-other s (HELD + t + stride * j) (b + stride * y) v 0 (λ e. d (omega arith) (omega arith))
+      there = word-beside s (HELD + t) j v (omega arith)
 
       v-bits : (c : ℕ) → bit v c ≡ (bit (word s₀ (HELD + t) j) c && not (bit (word s₀ i j) c))
       v-bits c = rw (ev c, eo c, ← held₀, ← row₀) (without-both (bit h c) (bit x c))
@@ -77,7 +73,7 @@ module _ {m t i : ℕ} {s₀ q₀ s q : List ℕ} {n j : ℕ} (g : Blocks m t i 
         gone = gone-both (g .gone) a (λ k _. next-block (common s₀ (HELD + t) i) (bit ours) j k (hit-at k));
         long = length-set s (HELD + t + stride * j) v ∙ g .long;
         held = λ b c z. same? b j
-            (λ e. rw (e, here) (v-bits c))
+            (λ e. rw (e, word-stored s (HELD + t) j v (omega arith) (reach l (HELD + t) (omega arith))) (v-bits c))
             (λ d. rw (there (HELD + t) b (omega arith) (λ _. d)) (g .held b c (omega arith)));
         same = λ b y z d. there b y z (λ e w. let k = d e in omega arith) ∙ g .same b y z (λ e. let k = d e in omega arith);
       })

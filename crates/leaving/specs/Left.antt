@@ -1,12 +1,12 @@
 -- A save's entries are gone at some sheets.
-use Prim.Native.Nat.{ℕ, _+_, _*_, _/_, _%_, _<_}
+use Prim.Native.Nat.{ℕ, _+_, _<_}
 use mathlib.Core.Path.{_≡_}
-use mathlib.Core.Bool.{Bool, true, not, _&&_}
+use mathlib.Core.Bool.{Bool, not, _&&_}
 use mathlib.Core.Logic.{_≢_}
 use mathlib.Core.List.{List}
 use lib.ListN.{length, getD}
 use lib.Dec.{eqb}
-use Rattle.sets.specs.Bit.{bit, in-row, word}
+use Rattle.sets.specs.Bit.{in-row, word}
 use Rattle.state.specs.View.{queued, queued-x, QUEUE, HELD, rows}
 use Rattle.state.specs.Fit.{Ends}
 
@@ -18,14 +18,6 @@ pub record Gone (m t : ℕ) (hit : ℕ → Bool) (q q′ : List ℕ) : Type 0 wh
   pub queue : (k u : ℕ) → k < m → queued m q′ k u ≡ (queued m q k u && not (hit k && eqb u t))
   pub queue-x : (k u : ℕ) → k < m → queued-x m q′ k u ≡ (queued-x m q k u && not (hit k && eqb u t))
   pub ahead : (i : ℕ) → i < QUEUE → getD q′ i 0 ≡ getD q i 0
-
--- the sheets of block j that pass the test of their digit
-abbrev pub of-block : (j : ℕ) → (ℕ → Bool) → ℕ → Bool
-of-block j f k = eqb (k / 64) j && f (k % 64)
-
--- the digits are sheets, of the m
-abbrev pub Inside : (m j x : ℕ) → Type 0
-Inside m j x = (c : ℕ) → c < 64 → bit x c ≡ true → 64 * j + c < m
 
 -- ---- In the save's own set too
 

@@ -4,9 +4,10 @@ ghost use mathlib.Core.Bool.{_&&_};
 ghost use lib.ListN.{length};
 ghost use lib.Dec.{eqb};
 ghost use Rattle.sets.specs.Bit.{bit, in-row, stride, blocks};
+ghost use Rattle.sets.specs.Loop.{of-block, Inside};
 ghost use Rattle.state.specs.View.{QUEUE, HELD, rows};
 ghost use Rattle.state.specs.Fit.{Ends};
-ghost use Rattle.leaving.specs.Left.{Gone, of-block, Inside, Left};
+ghost use Rattle.leaving.specs.Left.{Gone, Left};
 use state::Session;
 
 // Save t leaves sheet k's queue.

@@ -1,27 +1,19 @@
 -- The front entry of a queue by sets of saves is that of the rules' list.
 use Prim.Native.Nat.{ℕ, _<_}
-use mathlib.Core.Path.{_≡_, refl, sym, ap, _∙_}
-use mathlib.Core.Bool.{Bool, true, false, not, _&&_}
+use mathlib.Core.Path.{_≡_, sym, ap, _∙_}
+use mathlib.Core.Bool.{Bool, true, not, _&&_}
 use mathlib.Core.List.{List}
 use lib.Dec.{ltb}
 use Rattle.rules.specs.Table.{any}
-use Rattle.rules.specs.State.{is-x, at}
+use Rattle.rules.specs.State.{at}
 use Rattle.rules.specs.Steps.{at-front, x-on}
-use Rattle.rules.proofs.Table.{bool, clash, and-l}
+use Rattle.rules.proofs.Table.{bool, any-cong}
 use Rattle.sets.specs.Bit.{bit}
-use Rattle.state.specs.View.{part, in-set, placed, place-in, order-in, queue-of, queue-x-of, queued, queued-x, claim-of, claim-in, bare, BEFORE, CLAIM, CLAIM-X}
+use Rattle.state.specs.View.{part, placed, place-in, order-in, queue-of, queue-x-of, queued, queued-x, claim-in, bare, BEFORE}
 use Rattle.state.specs.Fit.{Last, Kept, Ready}
-use Rattle.state.proofs.Known.{small}
-use Rattle.state.proofs.Tables.{any-cong}
+use Rattle.state.proofs.Known.{small, x-entries}
 use Rattle.state.proofs.Waiting.{front-any}
 use Rattle.queues.specs.Front.{Ranked, fronted}
-
--- an X is a claim of X
-x-code : (c x : Bool) → is-x (claim-of c x) ≡ x
-x-code true true = refl
-x-code true false = refl
-x-code false true = refl
-x-code false false = refl
 
 -- sets with the same members have the same front
 pub fronted-same : (q q′ : List ℕ) (x x′ y y′ : ℕ) → part BEFORE 32 q′ ≡ part BEFORE 32 q → ((u : ℕ) → u < 64 → bit x′ u ≡ bit x u) → ((u : ℕ) → u < 64 → bit y′ u ≡ bit y u)
@@ -53,16 +45,6 @@ module _ {m : ℕ} {b s q : List ℕ} (kept : Kept m b s q) (k : ℕ) (h : k < m
   pub ranked : Ranked q (queue-of m q k)
   ranked = ranked-within (queue-of m q k) (λ u e. e)
 
-  pub x-queued : (u : ℕ) → queued-x m q k u ≡ true → queued m q k u ≡ true
-  x-queued u e = and-l (queued m q k u) (in-set m CLAIM-X s u k) (sym (kept .queues .exclusive u k (kept .queues .saves-x u k h e) h) ∙ e)
-
-  -- the X of a queue are the entries that claim X
-  pub x-entries : (u : ℕ) → queued-x m q k u ≡ (queued m q k u && x-on (claim-in m s) k u)
-  unfolding x-on
-  x-entries u = rw (x-code (in-set m CLAIM s u k) (in-set m CLAIM-X s u k)) (bool (queued m q k u)
-      (λ e. kept .queues .exclusive u k (save u e) h)
-      (λ e. bool (queued-x m q k u) (λ y. clash (queued m q k u) (x-queued u y) e) (λ y. rw e y)))
-
 -- the test of the front entry
 pub front-code : {m : ℕ} {b s q : List ℕ} → Ready m b s q → (k : ℕ) → k < m
     → fronted q (queue-of m q k) (queue-x-of m q k) ≡ at-front (x-on (bare m b s q .claim) k) (bare m b s q .queue k)
@@ -70,7 +52,7 @@ unfolding fronted
 front-code {m} {b} {s} {q} r k h =
     any-cong 64 (λ u. queued-x m q k u && not (any 64 (λ v. queued m q k v && bit (part BEFORE 32 q u) v)))
     (λ u. (queued m q k u && x-on (claim-in m s) k u) && not (any 64 (λ v. queued m q k v && ltb (place-in q v) (place-in q u))))
-    (λ u l. rw (x-entries (r .kept) k h u) (bool (queued m q k u)
+    (λ u l. rw (x-entries (r .kept) h u) (bool (queued m q k u)
     (λ y. ap (λ (z : Bool). (queued m q k u && x-on (claim-in m s) k u) && not z)
     (any-cong 64 (λ v. queued m q k v && bit (part BEFORE 32 q u) v) (λ v. queued m q k v && ltb (place-in q v) (place-in q u))
     (λ v i. bool (queued m q k v) (λ w. rw (w, by-place (r .kept) k h u v y w)) (λ w. rw w))))

@@ -12,12 +12,11 @@ use Rattle.rules.specs.Table.{any}
 use Rattle.rules.proofs.Table.{bool, below?, clash, and-l, and-r, any-intro, any-fails}
 use Rattle.sets.specs.Bit.{bit, low}
 use Rattle.sets.specs.Loop.{Over}
-use Rattle.sets.proofs.Bits.{bit-none}
+use Rattle.sets.proofs.Bits.{bit-none, bits-less}
 use Rattle.sets.proofs.Loops.{over-first, low-in, low-left}
 use Rattle.state.specs.View.{part, queue-of, queue-x-of, BEFORE, QUEUE}
 use Rattle.state.proofs.Parts.{part-in, queue-in, queue-x-in}
 use Rattle.queues.specs.Front.{Ranked, Front, fronted}
-use Rattle.queues.proofs.Common.{bits-less}
 
 -- save u is of x, and `left` are those of x before it
 pub record Going (q : List ℕ) (x u left : ℕ) : Type 0 where

@@ -10,18 +10,15 @@ use lib.ListN.{length, getD, set, length-set}
 use lib.Dec.{eqb}
 use borrow.Author.Tests.{eq-eqb, ne-eqb, lt-ltb}
 use Rattle.rules.specs.Bytes.{Begin, GiveUp}
-use Rattle.rules.specs.State.{State, Tally, first}
-use Rattle.rules.specs.Steps.{pass, counted, with-saves, with-phase, enter-run}
-use Rattle.rules.specs.Table.{upd}
+use Rattle.rules.specs.Steps.{pass, counted}
 use Rattle.state.specs.declared.Answer.the-variants.{Accepted, Refused}
-use Rattle.state.specs.Slices.{Slices}
-use Rattle.state.specs.View.{out-of-phase, part, shown, PHASE, RUNS, ORDER}
+use Rattle.state.specs.View.{out-of-phase, part, PHASE, RUNS, ORDER}
 use Rattle.state.specs.Lent.{own, Moves, Keeps}
+use Rattle.state.proofs.Bytes.{bytes-same, phase-stored, runs-stored, bytes-shown}
 use Rattle.state.proofs.Known.{kept-byte}
 use Rattle.state.proofs.OutOfPhase.{unused-tests, running-tests}
 use Rattle.state.proofs.Parts.{part-in}
 use Rattle.state.proofs.Steps.{refused, accepted}
-use Rattle.saves.proofs.Common.{phase-set, runs-set}
 
 module _ (m : ℕ) (b : List ℕ) where
   keeps-byte : (i v : ℕ) → i < ORDER → Keeps m (own b) (own (set b i v))
@@ -48,21 +45,16 @@ module _ (m : ℕ) (b : List ℕ) (long : ORDER ≤ length b) (t : ℕ) (t32 : t
   pub gives-up : (eqb p 1 || eqb p 3) ≡ true → Moves m (own b) (GiveUp t) (own (set b (PHASE + t) 5)) Accepted
   gives-up run x = accepted
       (λ tally. rw (lt-ltb t 32 t32, at-phase, running-tests pass p, run))
-      (λ tally. phase-set m b long t t32 5 x (counted tally) tally)
+      (λ tally. bytes-shown (phase-stored (bytes-same b) long t32 5) m x (counted tally) tally)
       (λ tally. refl)
 
-  -- the save runs, once more than before
-  module _ (x : Slices) (tally : Tally) where
-    run-entered : shown m (own (set (set b (PHASE + t) 1) (RUNS + t) (getD b (RUNS + t) 0 + 1)) x) (counted tally) ≡ enter-run (shown m (own b x) tally) t first (shown m (own b x) tally .mark)
-    run-entered = runs-set m (set b (PHASE + t) 1) (rw length-set long) t t32 (getD b (RUNS + t) 0 + 1) x (counted tally) (counted tally)
-        ∙ ap (λ (s : State). with-saves s (s .phase) (s .mark) (upd (s .runs) t (getD b (RUNS + t) 0 + 1)) (counted tally)) (phase-set m b long t t32 1 x (counted tally) tally)
-        ∙ ap (λ (n : ℕ). with-saves (with-phase (shown m (own b x) tally) t first (counted tally)) (upd (shown m (own b x) tally .phase) t first) (shown m (own b x) tally .mark) (upd (part RUNS 32 b) t n) (counted tally))
-        (add-one (getD b (RUNS + t) 0) ∙ ap suc (sym (part-in RUNS 32 b t t32)))
+  once-more : getD b (RUNS + t) 0 + 1 ≡ suc (part RUNS 32 b t)
+  once-more = add-one (getD b (RUNS + t) 0) ∙ ap suc (sym (part-in RUNS 32 b t t32))
 
   pub begins : p ≡ 0 → Moves m (own b) (Begin t) (own (set (set b (PHASE + t) 1) (RUNS + t) (getD b (RUNS + t) 0 + 1))) Accepted
   begins z x = accepted
       (λ tally. rw (lt-ltb t 32 t32, at-phase, unused-tests pass p, eq-eqb p 0 z))
-      (λ tally. run-entered x tally)
+      (λ tally. bytes-shown (runs-stored (phase-stored (bytes-same b) long t32 1) long t32 (getD b (RUNS + t) 0 + 1)) m x (counted tally) tally ∙ rw once-more)
       (λ tally. refl)
 
 module _ (m : ℕ) (b : List ℕ) (t : ℕ) (t32 : t < 32) where

@@ -15,7 +15,7 @@ use Rattle.wire.proofs.Front.{rest}
 use Rattle.wire.proofs.Header.{opens-has}
 use Rattle.wire.proofs.Rest.{shown-few}
 use Rattle.state.specs.Slices.{Slices, slices}
-use Rattle.state.specs.View.{shown, placed}
+use Rattle.state.specs.View.{shown}
 use Rattle.state.specs.Fit.{Ready}
 use Rattle.state.proofs.Known.{small}
 use Rattle.rows.specs.Rows.{Ordered}

@@ -1,19 +1,19 @@
 -- A cause's sheet is one of the session's.
 use Prim.Native.Nat.{ℕ, _<_}
-use mathlib.Core.Path.{_≡_, refl, sym, ap, _∙_}
+use mathlib.Core.Path.{_≡_, sym, ap, _∙_}
 use mathlib.Core.Bool.{Bool, true, false, _&&_, cond}
 use mathlib.Core.Option.{Option, none, some, Option·map}
 use native.Mathlib.Omega.{arith}
 use Rattle.rules.specs.Bytes.{Command, Begin, Read, Write, Submit, Take, Decide, Apply, GiveUp}
 use Rattle.rules.specs.State.{State, claims}
 use Rattle.rules.specs.Steps as rules
-use Rattle.rules.specs.Steps.{Cause, cause, cause-at, first-cause, Rule, owns, holds, at-front, x-on, behind, rule-met, found, verdict, invalid, took, answered, Checked, pass, refuse, check, Stepped, step-by, step, decision}
+use Rattle.rules.specs.Steps.{Cause, cause, cause-at, first-cause, Rule, owns, holds, at-front, x-on, behind, rule-met, found, invalid, took, answered, Checked, pass, refuse, check, Stepped, step-by, step, decision}
 use Rattle.rules.proofs.Table.{first-none, first-at, first-cases}
 use Rattle.state.specs.declared.Answer.{Answer}
 use Rattle.state.specs.declared.Answer.the-variants.{Accepted, Content, Took, Commits, CommitsLater, SecondRun, Recommits, Refused}
 use Rattle.state.specs.declared.Verdict.{Verdict}
 use Rattle.state.specs.declared.Verdict.the-variants.{Valid, Invalid}
-use Rattle.state.specs.View.{result-of, verdict-of, cause-of}
+use Rattle.state.specs.View.{result-of, cause-of}
 use Rattle.session.specs.Meaning.{reply-to, NearVerdict, NearLast}
 
 -- two of one kind that are said to be different

@@ -1,5 +1,5 @@
 // Sets of numbers below 64 as words: k is a member where digit k is 1. A loop over a set takes its lowest member and goes on with the rest.
-ghost use Prim.Native.Nat.{_≤_, _<_};
+ghost use Prim.Native.Nat.{_<_};
 ghost use mathlib.Core.Path.{_≡_};
 ghost use mathlib.Core.Bool.{not, _&&_, _||_};
 ghost use lib.Dec.{eqb};

@@ -1,22 +1,21 @@
 -- Slices of zeros, with the node count and the owners' sets stored, are what a session starts from.
 use Prim.Native.Nat.{ℕ, zero, suc, _+_, _-_, _*_, _/_, _%_, _^_, _≤_, _<_}
 use mathlib.Core.Path.{_≡_, refl, sym, ap, _∙_, fun-ext}
-use mathlib.Core.Bool.{Bool, true, false, _&&_, _||_, cond, and-false, or-false}
+use mathlib.Core.Bool.{false, _&&_, _||_, cond, and-false, or-false}
 use mathlib.Core.Logic.{_≢_}
 use mathlib.Core.List.{List}
 use native.Mathlib.Omega.{arith}
-use native.Mathlib.Nat.{not-suc-le-zero}
-use lib.ListN.{length, getD, set, take, drop, replicate, length-set, length-replicate}
-use lib.Seq.{getD-set-same, getD-set-other}
+use lib.ListN.{length, getD, set, replicate, length-set, length-replicate}
+use lib.Seq.{getD-set-same}
 use lib.Dec.{eqb, ltb}
-use borrow.Author.Tests.{eq-eqb, ne-eqb, eqb-true, lt-ltb, le-ltb}
+use borrow.Author.Tests.{eq-eqb, ne-eqb, lt-ltb, le-ltb}
 use Rattle.rules.specs.State.{fresh}
-use Rattle.rules.proofs.Table.{bool, below?, same?, clash}
+use Rattle.rules.proofs.Table.{below?, same?, clash}
 use Rattle.rules.proofs.Places.{entries}
 use Rattle.sets.specs.Bit.{bit, word, in-row, stride, blocks}
 use Rattle.sets.proofs.Bits.{bit-none}
 use Rattle.state.specs.Slices.{Slices, slices}
-use Rattle.state.specs.View.{part, flat, member, in-set, owner-in, placed, place-in, order-in, queued, queued-x, shown, no-tally, COPIED, WRITTEN, CLAIM, CLAIM-X, HELD, OWNED, ORDER, QUEUE, PHASE, FAILED, RUNS, NODES, TAKEN, PLACED, BEFORE, JOINED, rows}
+use Rattle.state.specs.View.{part, flat, member, in-set, owner-in, placed, queued, queued-x, shown, no-tally, COPIED, WRITTEN, CLAIM, CLAIM-X, HELD, OWNED, ORDER, QUEUE, PHASE, FAILED, RUNS, NODES, TAKEN, PLACED, BEFORE, JOINED, rows}
 use Rattle.state.specs.Fit.{Fit}
 use Rattle.state.specs.Stored.{Stored}
 use Rattle.state.specs.Starts.{Zero, Blank, header-by, Starts}

@@ -1,18 +1,23 @@
 -- What is known of the state, in the slices' terms.
 use Prim.Native.Nat.{ℕ, _+_, _≤_, _<_}
 use mathlib.Core.Path.{_≡_, refl, sym, ap, _∙_}
-use mathlib.Core.Bool.{Bool, true, false}
+use mathlib.Core.Bool.{Bool, true, false, _&&_}
 use mathlib.Core.List.{List}
 use native.Mathlib.Omega.{arith}
-use lib.ListN.{length, getD, set, take, drop, length-set, length-drop}
+use lib.ListN.{length, set, take, length-set, length-drop}
 use lib.Seq.{getD-take, length-take-le, drop-set-lt}
+use lib.Dec.{eqb}
 use Rattle.rules.specs.State.{Tally, claims, at}
-use Rattle.rules.proofs.Table.{below?, clash}
+use Rattle.rules.specs.Steps.{x-on}
+use Rattle.rules.proofs.Table.{bool, below?, clash, and-l}
 use Rattle.rules.proofs.Places.{entries-in}
-use Rattle.state.specs.Slices.{Slices, slices}
-use Rattle.state.specs.View.{part, claim-of, in-set, placed, place-in, order-in, queued, queued-x, claim-in, shown, bare, no-tally, ORDER, TAKEN, CLAIM, CLAIM-X}
-use Rattle.state.specs.Fit.{most-places, Sized, Listed, Last, Kept, Fit, Known, Rising, Ready}
-use Rattle.state.proofs.Parts.{part-past}
+use Rattle.sets.specs.Bit.{in-row}
+use Rattle.state.specs.Slices.{Slices}
+use Rattle.state.specs.View.{part, claim-of, in-set, owner-in, placed, place-in, order-in, queued, queued-x, claim-in, shown, bare, ORDER, TAKEN, CLAIM, CLAIM-X, HELD, OWNED}
+use Rattle.state.specs.Fit.{Sized, Last, Kept, Fit, Known, Rising, Ready}
+use Rattle.state.proofs.Codes.{x-code}
+use Rattle.state.proofs.Parts.{part-past, member-in}
+use Rattle.state.proofs.Rows.{set-row}
 
 -- bytes, sets and queues show all that is known but the counters
 pub known-bare : (m : ℕ) (x : Slices) (tally : Tally) → Known (shown m x tally) → Known (bare m (x .bytes) (x .sets) (x .queues))
@@ -36,6 +41,26 @@ ready m x tally k f = record { kept = f .kept; known = known-bare m x tally k }
 
 pub rising : (m : ℕ) (x : Slices) (tally : Tally) → ((k : ℕ) → k < m → shown m x tally .sheet k .wct < 65535) → Rising m (x .sheets)
 rising m x tally h k = below? k m (λ l. h k l) (λ l. rw (part-past m m (x .sheets) k l) (omega arith))
+
+-- ---- A sheet's owner and entries by the sets
+
+module _ {m : ℕ} {b s q : List ℕ} (kept : Kept m b s q) {k : ℕ} (h : k < m) where
+  pub owner-row : (n : ℕ) → n < 8 → eqb (owner-in m s 8 k) n ≡ in-row s (OWNED + n) k
+  owner-row n l = sym (kept .sets .owners n k l h) ∙ member-in m s (OWNED + n) k h
+
+  -- who has an entry is in the sheet's set, and the sheet in its own
+  pub held-row : {t : ℕ} → t < 32 → queued m q k t ≡ in-row s (HELD + t) k
+  held-row {t} l = sym (kept .queues .held t k l h) ∙ set-row m s HELD l k h
+
+  pub x-queued : (u : ℕ) → queued-x m q k u ≡ true → queued m q k u ≡ true
+  x-queued u e = and-l (queued m q k u) (in-set m CLAIM-X s u k) (sym (kept .queues .exclusive u k (kept .queues .saves-x u k h e) h) ∙ e)
+
+  -- the X of a queue are the entries that claim X
+  pub x-entries : (u : ℕ) → queued-x m q k u ≡ (queued m q k u && x-on (claim-in m s) k u)
+  unfolding x-on
+  x-entries u = rw (x-code (in-set m CLAIM s u k) (in-set m CLAIM-X s u k)) (bool (queued m q k u)
+      (λ e. kept .queues .exclusive u k (kept .queues .saves u k h e) h)
+      (λ e. bool (queued-x m q k u) (λ y. clash (queued m q k u) (x-queued u y) e) (λ y. rw e y)))
 
 -- ---- The order
 

@@ -1,10 +1,13 @@
+pub mod Bytes
 pub mod Cells
 pub mod Codes
 pub mod Fresh
+pub mod Keeping
 pub mod Known
 pub mod OutOfPhase
 pub mod Parts
 pub mod Reaching
+pub mod Rows
 pub mod Steps
 pub mod Stores
 pub mod Tables

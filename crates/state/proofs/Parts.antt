@@ -10,7 +10,7 @@ use lib.Seq.{getD-set-same, getD-set-other}
 use borrow.Author.Tests.{lt-ltb, le-ltb}
 use Rattle.rules.specs.Table.{upd, upd2}
 use Rattle.rules.proofs.Table.{below?, same?, upd-same, upd-other}
-use Rattle.sets.specs.Bit.{bit, word, in-row, stride, blocks}
+use Rattle.sets.specs.Bit.{bit, word, in-row, blocks}
 use Rattle.state.specs.View.{part, flat, member, in-set, owner-in, queue-of, queue-x-of, OWNED, QUEUE}
 use Rattle.state.proofs.Cells.{cell-same}
 use Rattle.state.proofs.Tables.{upd2-by}

@@ -1,5 +1,5 @@
 -- A queue as the placed saves of a test, by last place: what it holds, who stands in front, one more at its end.
-use Prim.Native.Nat.{ℕ, zero, suc, _+_, _≤_, _<_}
+use Prim.Native.Nat.{ℕ, zero, suc, _≤_, _<_}
 use mathlib.Core.Path.{_≡_, refl, sym, ap, _∙_}
 use mathlib.Core.Bool.{Bool, true, false, not, _&&_, _||_, and-false, or-false, or-true}
 use mathlib.Core.Logic.{_≢_}
@@ -21,6 +21,12 @@ holds-one x [] e k = clash false e refl
 holds-one x (u ∷ l) e k = bool (x u)
     (λ y. k u (rw (eq-eqb u u refl)) y)
     (λ y. holds-one x l (rw y at e) (λ v m z. k v (rw m (or-true (eqb u v))) z))
+
+-- a save that passes the test is an entry, if it has a place
+pub mem-entries : (order : List ℕ) (place : ℕ → ℕ) (f : ℕ → Bool) (n : ℕ) {t : ℕ} → (f t ≡ true → Listed order place n t) → mem t (entries order place f n) ≡ f t
+mem-entries order place f n {t} l = bool (f t)
+    (λ y. entries-in order place f n t (l y .0) (l y .1) y ∙ sym y)
+    (λ z. bool (mem t (entries order place f n)) (λ y. entries-out order place f n t y (λ _ _ w. clash (f t) w z)) (λ y. y ∙ sym z))
 
 -- the first entry, with all that it has before it
 pub data Front (order : List ℕ) (place : ℕ → ℕ) (f : ℕ → Bool) (n : ℕ) : Type 0 where

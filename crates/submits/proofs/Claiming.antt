@@ -7,12 +7,12 @@ use mathlib.Core.List.{List}
 use native.Mathlib.Omega.{arith}
 use Rattle.rules.specs.State.{Claim, join-claim, joined-claim}
 use Rattle.rules.proofs.Table.{bool, same?, below?, clash, row-same, row-other}
-use Rattle.sets.specs.Bit.{bit, word, blocks}
+use Rattle.sets.specs.Bit.{bit, word, in-row, blocks}
 use Rattle.state.specs.View.{in-set, owner-in, claim-in, claim-of, mark-of, COPIED, WRITTEN, CLAIM, CLAIM-X, HELD, OWNED, rows}
 use Rattle.state.specs.Fit.{Sets}
-use Rattle.state.proofs.Parts.{member-same, member-past, in-block, set-in, set-past}
+use Rattle.state.proofs.Parts.{member-same, in-block}
+use Rattle.state.proofs.Rows.{set-row, set-none, set-by, sets-by, owners-by}
 use Rattle.submits.specs.Joining.{Claimed}
-use Rattle.submits.proofs.Common.{by-words, same-sets, same-owners}
 
 -- claim and mark as one claim
 joined-of : (c x p w : Bool) → claim-of (c || p) (x || w) ≡ join-claim (claim-of c x) (mark-of p w)
@@ -40,47 +40,39 @@ both false false c p f g e = clash false e refl
 
 module _ (m : ℕ) {t : ℕ} (t32 : t < 32) {s s′ : List ℕ} (c : Claimed (blocks m) t s s′) where
   pub copied-same : in-set m COPIED s′ ≡ in-set m COPIED s
-  copied-same = same-sets m s s′ COPIED (λ u j h. c .rest (COPIED + u) j (omega arith) (λ e. omega arith) (λ e. omega arith))
+  copied-same = sets-by m s s′ COPIED (λ u j h _. c .rest (COPIED + u) j (omega arith) (λ e. omega arith) (λ e. omega arith))
 
   pub written-same : in-set m WRITTEN s′ ≡ in-set m WRITTEN s
-  written-same = same-sets m s s′ WRITTEN (λ u j h. c .rest (WRITTEN + u) j (omega arith) (λ e. omega arith) (λ e. omega arith))
+  written-same = sets-by m s s′ WRITTEN (λ u j h _. c .rest (WRITTEN + u) j (omega arith) (λ e. omega arith) (λ e. omega arith))
 
   pub held-same : in-set m HELD s′ ≡ in-set m HELD s
-  held-same = same-sets m s s′ HELD (λ u j h. c .rest (HELD + u) j (omega arith) (λ e. omega arith) (λ e. omega arith))
+  held-same = sets-by m s s′ HELD (λ u j h _. c .rest (HELD + u) j (omega arith) (λ e. omega arith) (λ e. omega arith))
 
-  owned-same : (i j : ℕ) → OWNED + i < rows → word s′ (OWNED + i) j ≡ word s (OWNED + i) j
-  owned-same i j h = c .rest (OWNED + i) j h (λ e. omega arith) (λ e. omega arith)
+  owned-same : (n j : ℕ) → n < 8 → j < blocks m → word s′ (OWNED + n) j ≡ word s (OWNED + n) j
+  owned-same n j h _ = c .rest (OWNED + n) j (omega arith) (λ e. omega arith) (λ e. omega arith)
 
   pub owner-same : owner-in m s′ 8 ≡ owner-in m s 8
-  owner-same = same-owners m s s′ owned-same
+  owner-same = owners-by m s s′ owned-same
 
   -- another save's claim
   claim-other : (u k : ℕ) → u ≢ t → in-set m CLAIM s′ u k ≡ in-set m CLAIM s u k
-  claim-other u k d = below? u 32
-      (λ h. set-in m CLAIM s′ u k h ∙ member-same m s s′ (CLAIM + u) k (λ j _. c .rest (CLAIM + u) j (omega arith) (λ e. d (omega arith)) (λ e. omega arith)) ∙ sym (set-in m CLAIM s u k h))
-      (λ h. set-past m CLAIM s′ u k h ∙ sym (set-past m CLAIM s u k h))
+  claim-other u k d = set-by m s s′ CLAIM u k (λ h j _. c .rest (CLAIM + u) j (omega arith) (λ e. d (omega arith)) (λ e. omega arith))
 
   pub claim-x-other : (u k : ℕ) → u ≢ t → in-set m CLAIM-X s′ u k ≡ in-set m CLAIM-X s u k
-  claim-x-other u k d = below? u 32
-      (λ h. set-in m CLAIM-X s′ u k h ∙ member-same m s s′ (CLAIM-X + u) k (λ j _. c .rest (CLAIM-X + u) j (omega arith) (λ e. omega arith) (λ e. d (omega arith))) ∙ sym (set-in m CLAIM-X s u k h))
-      (λ h. set-past m CLAIM-X s′ u k h ∙ sym (set-past m CLAIM-X s u k h))
+  claim-x-other u k d = set-by m s s′ CLAIM-X u k (λ h j _. c .rest (CLAIM-X + u) j (omega arith) (λ e. omega arith) (λ e. d (omega arith)))
 
-  -- its own
-  own-set : (l : List ℕ) (r k : ℕ) → k < m → in-set m r l t k ≡ bit (word l (r + t) (k / 64)) (k % 64)
-  own-set l r k h = set-in m r l t k t32 ∙ by-words m l (r + t) k h
-
-  none : (l : List ℕ) (r k : ℕ) → m ≤ k → in-set m r l t k ≡ false
-  none l r k h = set-in m r l t k t32 ∙ member-past m l (r + t) k h
+  -- its own: row `new` has what `old` has, and what `more` has
+  joined-rows : (new more : ℕ) → ((j c : ℕ) → j < blocks m → bit (word s′ (new + t) j) c ≡ (bit (word s (new + t) j) c || bit (word s (more + t) j) c)) → (k : ℕ) → in-set m new s′ t k ≡ (in-set m new s t k || in-set m more s t k)
+  unfolding in-row
+  joined-rows new more e k = below? k m
+      (λ h. rw (set-row m s new t32 k h, set-row m s more t32 k h) (set-row m s′ new t32 k h ∙ e (k / 64) (k % 64) (in-block m k h)))
+      (λ h. rw (set-none m s new t32 k h, set-none m s more t32 k h) (set-none m s′ new t32 k h))
 
   claim-own : (k : ℕ) → in-set m CLAIM s′ t k ≡ (in-set m CLAIM s t k || in-set m COPIED s t k)
-  claim-own k = below? k m
-      (λ h. rw (own-set s CLAIM k h, own-set s COPIED k h) (own-set s′ CLAIM k h ∙ c .claim (k / 64) (k % 64) (in-block m k h)))
-      (λ h. rw (none s CLAIM k h, none s COPIED k h) (none s′ CLAIM k h))
+  claim-own = joined-rows CLAIM COPIED (c .claim)
 
   claim-x-own : (k : ℕ) → in-set m CLAIM-X s′ t k ≡ (in-set m CLAIM-X s t k || in-set m WRITTEN s t k)
-  claim-x-own k = below? k m
-      (λ h. rw (own-set s CLAIM-X k h, own-set s WRITTEN k h) (own-set s′ CLAIM-X k h ∙ c .claim-x (k / 64) (k % 64) (in-block m k h)))
-      (λ h. rw (none s CLAIM-X k h, none s WRITTEN k h) (none s′ CLAIM-X k h))
+  claim-x-own = joined-rows CLAIM-X WRITTEN (c .claim-x)
 
   -- ---- The rules' claim
 
@@ -111,6 +103,6 @@ module _ (m : ℕ) {t : ℕ} (t32 : t < 32) {s s′ : List ℕ} (c : Claimed (bl
     sets-after = record {
       written = λ u k e. rw copied-same (z .written u k (rw written-same at e));
       claimed = claimed-after;
-      owners = λ n k a h. rw owner-same (member-same m s s′ (OWNED + n) k (λ j _. owned-same n j (omega arith)) ∙ z .owners n k a h);
+      owners = λ n k a h. rw owner-same (member-same m s s′ (OWNED + n) k (λ j. owned-same n j a) ∙ z .owners n k a h);
       ends = ends-after;
     }

@@ -1,6 +1,6 @@
 -- A save that may join: in its first run, or after it has left its place.
 use Prim.Native.Nat.{ℕ, _+_, _*_, _<_}
-use mathlib.Core.Path.{_≡_, refl, sym, ap, _∙_, fun-ext}
+use mathlib.Core.Path.{_≡_, refl, sym, _∙_, fun-ext}
 use mathlib.Core.Bool.{Bool, true, false, not, _&&_, true≢false, and-true, and-false}
 use mathlib.Core.Logic.{_≢_}
 use mathlib.Core.List.{List, [], _∷_, _++_}
@@ -19,11 +19,13 @@ use Rattle.state.specs.Slices.{Slices}
 use Rattle.state.specs.View.{as-phase, part, in-set, mark-of, claim-of, placed, place-in, order-in, queue-of, queue-x-of, queued, shown, NODES, PHASE, PLACE, TAKEN, PLACED, BEFORE, JOINED, QUEUE, COPIED, WRITTEN, CLAIM, CLAIM-X, HELD}
 use Rattle.state.specs.Fit.{most-places, Last, Queues, Kept, Ready}
 use Rattle.state.specs.Lent.{saving}
-use Rattle.state.proofs.Parts.{part-in, part-same, queue-past, queue-same, queue-x-same, member-in, set-in}
+use Rattle.state.proofs.Keeping.{Ahead, placed-same, place-same, entries-ahead, entries-taken, entries-sets, entries-owner}
 use Rattle.state.proofs.Known.{order-length}
+use Rattle.state.proofs.Parts.{part-in, part-same, queue-past, queue-same, queue-x-same}
+use Rattle.state.proofs.Rows.{set-row}
 use Rattle.state.proofs.Steps.{same-state}
 use Rattle.leaving.specs.Left.{Left}
-use Rattle.leaving.proofs.Stands.{table-left, place-left, placed-left, sets-left, owner-left}
+use Rattle.leaving.proofs.Stands.{left}
 use Rattle.submits.specs.Joining.{Freed}
 use Rattle.submits.proofs.Joins.{Free}
 
@@ -121,7 +123,7 @@ module _ {m t : ℕ} {hit : ℕ → Bool} (b : List ℕ) {s q s′ q′ : List �
   no-entry-left z e k h = g .queue k t h ∙ rw (e k, eq-eqb t t refl, ← own) (none (in-row s (HELD + t) k))
     where
       own : in-row s (HELD + t) k ≡ queued m q k t
-      own = sym (set-in m HELD s t k t32 ∙ member-in m s (HELD + t) k h) ∙ z .held t k t32 h
+      own = sym (set-row m s HELD t32 k h) ∙ z .held t k t32 h
 
       none : (a : Bool) → (a && not ((a && a) && true)) ≡ false
       none true = refl
@@ -129,32 +131,35 @@ module _ {m t : ℕ} {hit : ℕ → Bool} (b : List ℕ) {s q s′ q′ : List �
 
   others-left : (k u : ℕ) → (queued m q k u && not (eqb u t)) ≡ (queued m q′ k u && not (eqb u t))
   others-left k u = below? k m
-      (λ h. rw (g .queue k u h) (same? u t
-      (λ e. rw (eq-eqb u t e, and-false (queued m q k u)) (sym (and-false (queued m q k u && not (hit k && true)))))
-      (λ d. rw (ne-eqb u t d, and-false (hit k)) (sym (ap (λ (y : Bool). y && true) (and-true (queued m q k u)))))))
+      (λ h. same? u t
+      (λ e. rw (eq-eqb u t e, and-false (queued m q k u), and-false (queued m q′ k u)))
+      (λ d. rw (left g .others k u h d)))
       (λ h. rw (queue-past m q k h, queue-past m q′ k h))
+
+  ahead : Ahead q q′
+  ahead = entries-ahead (left g)
 
   -- the joining takes them out of the queues in any case
   pub left-view : (x : Slices) (tally : Tally) → join-order (shown m (saving b s q x) tally) t ≡ join-order (shown m (saving b s′ q′ x) tally) t
   left-view x tally = sym (same-state
-      (λ i. record { nodes = getD b NODES 0; sheets = m; owner = owner-left g t32 i })
+      (λ i. record { nodes = getD b NODES 0; sheets = m; owner = entries-owner (left g) t32 i })
       refl
       (fun-ext queue-left)
       refl
       (λ i. marks i)
       refl
-      (λ i. joined-claim (λ u k. claim-of (sets-left g CLAIM (omega arith) i u k) (sets-left g CLAIM-X (omega arith) i u k)) (marks i) t)
+      (λ i. joined-claim (λ u k. claim-of (entries-sets (left g) CLAIM (omega arith) i u k) (entries-sets (left g) CLAIM-X (omega arith) i u k)) (marks i) t)
       refl refl
-      (λ i. take (placed-left g i) (order-in b) ++ t ∷ [])
-      (λ i. upd (place-left g i) t (length (take (placed-left g i) (order-in b))))
-      (table-left g TAKEN 8 (omega arith))
+      (λ i. take (placed-same ahead i) (order-in b) ++ t ∷ [])
+      (λ i. upd (place-same ahead i) t (length (take (placed-same ahead i) (order-in b))))
+      (entries-taken (left g))
       refl)
     where
       marks : _≡_ {A = ℕ → ℕ → Mark} (λ u k. mark-of (in-set m COPIED s′ u k) (in-set m WRITTEN s′ u k)) (λ u k. mark-of (in-set m COPIED s u k) (in-set m WRITTEN s u k))
-      marks i u k = mark-of (sets-left g COPIED (omega arith) i u k) (sets-left g WRITTEN (omega arith) i u k)
+      marks i u k = mark-of (entries-sets (left g) COPIED (omega arith) i u k) (entries-sets (left g) WRITTEN (omega arith) i u k)
 
       queue-left : (k : ℕ) → without t (entries (order-in b) (place-in q′) (queued m q′ k) (placed q′)) ≡ without t (entries (order-in b) (place-in q) (queued m q k) (placed q))
-      queue-left k = (λ i. without t (entries (order-in b) (place-left g i) (queued m q′ k) (placed-left g i)))
+      queue-left k = (λ i. without t (entries (order-in b) (place-same ahead i) (queued m q′ k) (placed-same ahead i)))
           ∙ entries-without (order-in b) (place-in q) (queued m q′ k) t (placed q)
           ∙ sym (entries-cong (order-in b) (place-in q) (λ u. queued m q k u && not (eqb u t)) (λ u. queued m q′ k u && not (eqb u t)) (placed q) (others-left k))
           ∙ sym (entries-without (order-in b) (place-in q) (queued m q k) t (placed q))

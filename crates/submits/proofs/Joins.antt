@@ -1,5 +1,5 @@
 -- A save without a place joins the end of the order.
-use Prim.Native.Nat.{ℕ, suc, _+_, _*_, _<_}
+use Prim.Native.Nat.{ℕ, suc, _+_, _*_, _≤_, _<_}
 use mathlib.Core.Path.{_≡_, refl, sym, ap, _∙_, fun-ext}
 use mathlib.Core.Bool.{Bool, true, false, and-false, or-true, or-false}
 use mathlib.Core.Logic.{_≢_}
@@ -7,26 +7,26 @@ use mathlib.Core.List.{List, [], _∷_, _++_}
 use native.Mathlib.Omega.{arith}
 use native.Mathlib.Nat.{le-refl}
 use native.Mathlib.Numerals.{add-one}
-use lib.ListN.{length, getD, set, take, length-set, length-drop}
-use lib.Seq.{getD-set-same, getD-set-other, drop-set-add, take-suc-set}
+use lib.ListN.{length, getD, set, take, length-drop}
+use lib.Seq.{getD-set-same, getD-set-other, getD-take, drop-set-add, take-suc-set}
 use lib.Dec.{eqb, ltb}
 use borrow.Author.Tests.{eq-eqb, ne-eqb, lt-ltb, le-ltb}
 use Rattle.rules.specs.Table.{upd}
-use Rattle.rules.specs.State.{Phase, submitted, Tally, at}
+use Rattle.rules.specs.State.{submitted, Tally, at}
 use Rattle.rules.specs.Steps.{without, counted, join-order}
 use Rattle.rules.proofs.Table.{bool, same?, below?, clash, upd-same, upd-other}
-use Rattle.rules.proofs.Places.{by, entries, entries-without, entries-moved, snoc-new}
+use Rattle.rules.proofs.Places.{by, entries, entries-by, entries-without, entries-moved, snoc-new}
 use Rattle.sets.specs.Bit.{bit}
 use Rattle.sets.proofs.Bits.{bit-none}
 use Rattle.state.specs.Slices.{Slices}
 use Rattle.state.specs.View.{as-phase, set?, part, mark-of, placed, place-in, order-in, queue-of, queue-x-of, queued, shown, PHASE, FAILED, RUNS, NODES, ORDER, PLACE, TAKEN, BEFORE, JOINED, QUEUE}
 use Rattle.state.specs.Fit.{most-places, Sized, Sets, Last, Queues, Places, Kept}
 use Rattle.state.specs.Lent.{saving}
-use Rattle.state.proofs.Parts.{part-in, part-past, part-same, part-apart, part-view, queue-past, queue-same, queue-x-same}
-use Rattle.state.proofs.Known.{order-length, order-same}
+use Rattle.state.proofs.Bytes.{phase-in, failed-in, Bytes, bytes-same, phase-stored, mark-stored}
+use Rattle.state.proofs.Known.{order-length}
+use Rattle.state.proofs.Parts.{part-in, part-past, part-same, part-apart, queue-past, queue-same, queue-x-same}
 use Rattle.state.proofs.Steps.{same-state}
 use Rattle.submits.specs.Joining.{Placing, waiting, Joining}
-use Rattle.submits.proofs.Common.{entries-cut}
 use Rattle.submits.proofs.Seats.{seated-long}
 use Rattle.submits.proofs.Claiming.{copied-same, written-same, held-same, owner-same, claim-x-other, claims-after, sets-after}
 
@@ -42,6 +42,17 @@ pub record Free (m t : ℕ) (b s q : List ℕ) : Type 0 where
   pub last : (u : ℕ) → bit (getD q JOINED 0) u ≡ true → (u < 32) × Last b q u
   pub out : bit (getD q JOINED 0) t ≡ false
   pub among : (u v : ℕ) → u < 32 → bit (part BEFORE 32 q u) v ≡ true → bit (getD q JOINED 0) v ≡ true
+
+-- the entries before place n by the first n places alone
+entries-cut : (order : List ℕ) (place : ℕ → ℕ) (f : ℕ → Bool) (n : ℕ) → entries order place f n ≡ entries (take n order) place f n
+unfolding by
+entries-cut order place f n = entries-by order (take n order) place place f f n here (λ q l. by-at q (here q l))
+  where
+    here : (q : ℕ) → q < n → at order q ≡ at (take n order) q
+    here q l = sym (getD-take n order q 0 l)
+
+    by-at : (q : ℕ) → at order q ≡ at (take n order) q → by order place f q ≡ by (take n order) place f q
+    by-at q e = rw e
 
 -- a save without an entry takes the place after n
 entries-joined : (order : List ℕ) (place : ℕ → ℕ) (f : ℕ → Bool) (t n : ℕ) → length order ≡ n → f t ≡ false
@@ -62,9 +73,15 @@ module _ {m t : ℕ} (t32 : t < 32) {b s q b′ s′ q′ : List ℕ} (f : Free 
 
   -- ---- The order
 
+  -- the bytes of a save that waits; the place comes behind them
+  waits : Bytes b (waiting t b) (upd (phase-in b) t submitted) (upd (failed-in b) t false) (part RUNS 32 b)
+  waits = phase-stored (mark-stored (bytes-same b) long t32 0) long t32 2
+    where
+      long : ORDER ≤ length b
+      long = let a = f .sized .bytes in omega arith
+
   order-after : order-in b′ ≡ set (order-in b) n t
-  order-after = ap (λ (l : List ℕ). order-in l) (p .order) ∙ drop-set-add ORDER (waiting t b) n t
-      ∙ ap (λ (l : List ℕ). set l n t) (order-same (set b (FAILED + t) 0) (PHASE + t) 2 (omega arith) ∙ order-same b (FAILED + t) 0 (omega arith))
+  order-after = ap (λ (l : List ℕ). order-in l) (p .order) ∙ drop-set-add ORDER (waiting t b) n t ∙ ap (λ (l : List ℕ). set l n t) (waits .order)
 
   room : n < length (order-in b)
   room = rw (length-drop ORDER b) (let a = f .sized .bytes in let r = f .room in omega arith)
@@ -195,32 +212,12 @@ module _ {m t : ℕ} (t32 : t < 32) {b s q b′ s′ q′ : List ℕ} (f : Free 
       ∙ ap (λ (w : ℕ → ℕ). entries (take n (order-in b) ++ t ∷ []) w (queued m q k) (suc n)) place-after
       ∙ entries-joined (take n (order-in b)) (place-in q) (queued m q k) t n cut-long (no-entry k) ∙ ap (without t) (sym (entries-cut (order-in b) (place-in q) (queued m q k) n))
 
-  -- the bytes ahead of the order
-  bytes-same : (i : ℕ) → i < ORDER → i ≢ FAILED + t → i ≢ PHASE + t → getD b′ i 0 ≡ getD b i 0
-  bytes-same i h d e = ap (λ (l : List ℕ). getD l i 0) (p .order) ∙ getD-set-other (waiting t b) (ORDER + n) i t 0 (λ z. omega arith)
-      ∙ getD-set-other (set b (FAILED + t) 0) (PHASE + t) i 2 0 e ∙ getD-set-other b (FAILED + t) i 0 0 d
+  -- a table ahead of the order
+  table-same : (off size : ℕ) → off + size ≤ ORDER → part off size b′ ≡ part off size (waiting t b)
+  table-same off size h = ap (part off size) (p .order) ∙ part-apart off size (waiting t b) (ORDER + n) t (λ i l e. omega arith)
 
   nodes-same : getD b′ NODES 0 ≡ getD b NODES 0
-  nodes-same = bytes-same NODES (omega arith) (λ e. omega arith) (λ e. omega arith)
-
-  phase-after : _≡_ {A = ℕ → Phase} (λ u. as-phase (part PHASE 32 b′ u)) (upd (λ u. as-phase (part PHASE 32 b u)) t submitted)
-  phase-after = (λ i u. as-phase (later i u)) ∙ part-view PHASE 32 as-phase (set b (FAILED + t) 0) t 2 t32 (rw length-set (let a = f .sized .bytes in omega arith)) ∙ (λ i. upd (λ u. as-phase (sooner i u)) t submitted)
-    where
-      later : part PHASE 32 b′ ≡ part PHASE 32 (waiting t b)
-      later = ap (part PHASE 32) (p .order) ∙ part-apart PHASE 32 (waiting t b) (ORDER + n) t (λ i h e. omega arith)
-
-      sooner : part PHASE 32 (set b (FAILED + t) 0) ≡ part PHASE 32 b
-      sooner = part-apart PHASE 32 b (FAILED + t) 0 (λ i h e. omega arith)
-
-  failed-after : _≡_ {A = ℕ → Bool} (λ u. set? (part FAILED 32 b′ u)) (upd (λ u. set? (part FAILED 32 b u)) t false)
-  failed-after = (λ i u. set? (later i u)) ∙ part-view FAILED 32 set? b t 0 t32 (let a = f .sized .bytes in omega arith)
-    where
-      later : part FAILED 32 b′ ≡ part FAILED 32 (set b (FAILED + t) 0)
-      later = ap (part FAILED 32) (p .order) ∙ part-apart FAILED 32 (waiting t b) (ORDER + n) t (λ i h e. omega arith)
-          ∙ part-apart FAILED 32 (set b (FAILED + t) 0) (PHASE + t) 2 (λ i h e. omega arith)
-
-  runs-same : part RUNS 32 b′ ≡ part RUNS 32 b
-  runs-same = part-same RUNS 32 b b′ (λ i h. bytes-same (RUNS + i) (omega arith) (λ e. omega arith) (λ e. omega arith))
+  nodes-same = ap (λ (l : List ℕ). getD l NODES 0) (p .order) ∙ getD-set-other (waiting t b) (ORDER + n) NODES t 0 (λ e. omega arith) ∙ waits .nodes
 
   taken-same : part TAKEN 8 q′ ≡ part TAKEN 8 q
   taken-same = part-same TAKEN 8 q q′ (λ i h. p .rest (TAKEN + i) (λ e. omega arith) (λ e. omega arith) (λ e. omega arith) (λ e. omega arith))
@@ -230,12 +227,12 @@ module _ {m t : ℕ} (t32 : t < 32) {b s q b′ s′ q′ : List ℕ} (f : Free 
       (λ i. record { nodes = nodes-same i; sheets = m; owner = owner-same m t32 (j .claimed) i })
       refl
       (fun-ext queue-joined)
-      phase-after
+      ((λ i u. as-phase (table-same PHASE 32 (omega arith) i u)) ∙ waits .phased)
       (λ i u k. mark-of (copied-same m t32 (j .claimed) i u k) (written-same m t32 (j .claimed) i u k))
       refl
       (claims-after m t32 (j .claimed))
-      failed-after
-      runs-same
+      ((λ i u. set? (table-same FAILED 32 (omega arith) i u)) ∙ waits .marked)
+      (table-same RUNS 32 (omega arith) ∙ waits .counted)
       (rw placed-after cut)
       (rw cut-long place-after)
       taken-same

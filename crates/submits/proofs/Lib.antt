@@ -1,7 +1,6 @@
 pub mod Wide
 pub mod Claims
 pub mod Seats
-pub mod Common
 pub mod Claiming
 pub mod Joins
 pub mod Freeing

@@ -5,27 +5,27 @@ use mathlib.Core.Bool.{Bool, true, false, _&&_, _||_}
 use mathlib.Core.Logic.{_≢_}
 use mathlib.Core.List.{List}
 use native.Mathlib.Omega.{arith}
-use lib.ListN.{length, getD, set, take}
-use lib.Seq.{getD-set-other}
+use lib.ListN.{length, getD, set}
 use lib.Dec.{eqb}
 use borrow.Author.Tests.{ne-eqb, lt-ltb}
 use Rattle.rules.specs.Bytes.{Submit}
 use Rattle.rules.specs.State.{Tally, State, is-first}
-use Rattle.rules.proofs.Places.{entries}
-use Rattle.rules.specs.Steps.{pass, check, counted, submit-save, join-order}
+use Rattle.rules.specs.Steps.{pass, check, counted, counted-second, submit-save, join-order}
 use Rattle.sets.specs.Bit.{in-row, stride, blocks}
 use Rattle.state.specs.declared.Answer.the-variants.{Accepted, Recommits, Refused}
 use Rattle.state.specs.Slices.{Slices}
-use Rattle.state.specs.View.{as-phase, out-of-phase, set?, part, owner-in, placed, place-in, order-in, queued, shown, PHASE, FAILED, RUNS, NODES, ORDER, PLACED, QUEUE, HELD, rows}
+use Rattle.state.specs.View.{as-phase, out-of-phase, part, placed, shown, PHASE, ORDER, PLACED, QUEUE, HELD, rows}
 use Rattle.state.specs.Fit.{most-places, Kept, Ready}
 use Rattle.state.specs.Lent.{saving, Moves, Keeps}
+use Rattle.state.proofs.Bytes.{bytes-same, phase-stored, bytes-shown}
 use Rattle.state.proofs.Codes.{first-code, second-code}
+use Rattle.state.proofs.Keeping.{placed-same, entries-ahead}
+use Rattle.state.proofs.Known.{kept-byte}
 use Rattle.state.proofs.OutOfPhase.{running-tests}
-use Rattle.state.proofs.Parts.{part-in, part-apart, part-view}
-use Rattle.state.proofs.Known.{order-same, kept-byte}
-use Rattle.state.proofs.Steps.{refused, accepted, same-state}
+use Rattle.state.proofs.Parts.{part-in}
+use Rattle.state.proofs.Steps.{refused, accepted}
 use Rattle.leaving.specs.Left.{Left}
-use Rattle.leaving.proofs.Stands.{placed-left, kept-left}
+use Rattle.leaving.proofs.Stands.{left, kept-left}
 use Rattle.submits.specs.Wide.{wide-in}
 use Rattle.submits.specs.Joining.{Freed, Joining}
 use Rattle.submits.proofs.Joins.{Free, joins, kept-after}
@@ -79,10 +79,10 @@ module _ {m : ℕ} {b s q : List ℕ} (r : Ready m b s q) (t : ℕ) (t32 : t < 3
 
   module _ (second : p ≡ 3) {s₁ q₁ q₂ : List ℕ} (g : Left m t (λ k. in-row s (HELD + t) k && in-row s (HELD + t) k) s q s₁ q₁) (h : Freed t q₁ q₂) where
     pub left-fits : Fits s₁ q₂
-    left-fits = fits-in s₁ q₂ (rw second) (g .long-s) (h .long ∙ g .long-q) (h .front PLACED (omega arith) ∙ placed-left g)
+    left-fits = fits-in s₁ q₂ (rw second) (g .long-s) (h .long ∙ g .long-q) (h .front PLACED (omega arith) ∙ placed-same (entries-ahead (left g)))
 
     left-free : Free m t b s₁ q₂
-    left-free = freed-free m b s₁ h (kept-left g t32 (r .kept)) (rw (placed-left g) (has-room (rw second))) (no-entry-left b t32 g (r .kept .queues) (λ k. refl))
+    left-free = freed-free m b s₁ h (kept-left g t32 (r .kept)) (rw (placed-same (entries-ahead (left g))) (has-room (rw second))) (no-entry-left b t32 g (r .kept .queues) (λ k. refl))
 
     pub wide-joins : {b′ s′ q′ : List ℕ} → Joining m t b s₁ q₂ b′ s′ q′ → true ≡ wide-in m s t
         → Moves m (saving b s q) (Submit t) (saving b′ s′ q′) Accepted × Keeps m (saving b s q) (saving b′ s′ q′)
@@ -99,20 +99,10 @@ module _ {m : ℕ} {b s q : List ℕ} (r : Ready m b s q) (t : ℕ) (t32 : t < 3
 
   pub commits : p ≡ 3 → false ≡ wide-in m s t → Moves m (saving b s q) (Submit t) (saving b₄ s q) Recommits
   commits second w x = accepted (passes (rw second) x)
-      (λ tally. same-state
-      (let e : getD b₄ NODES 0 ≡ getD b NODES 0 = getD-set-other b (PHASE + t) NODES 4 0 (λ z. omega arith) in λ i. record { nodes = e i; sheets = m; owner = owner-in m s 8 })
-      refl
-      (λ i k. entries (order i) (place-in q) (queued m q k) (placed q))
-      (part-view PHASE 32 as-phase b t 4 t32 (let a = r .kept .sized .bytes in omega arith)) refl refl refl
-      (let e : part FAILED 32 b₄ ≡ part FAILED 32 b = part-apart FAILED 32 b (PHASE + t) 4 (λ i h z. omega arith) in λ i u. set? (e i u))
-      (part-apart RUNS 32 b (PHASE + t) 4 (λ i h z. omega arith))
-      (λ i. take (placed q) (order i)) refl refl refl
+      (λ tally. bytes-shown (phase-stored (bytes-same b) (let a = r .kept .sized .bytes in omega arith) t32 4) m (saving b s q x) (counted-second tally) tally
       ∙ ap (λ (y : Bool). submit-save y (shown m (saving b s q x) tally) t) (sym test))
       (λ tally. refl)
     where
-      order : order-in b₄ ≡ order-in b
-      order = order-same b (PHASE + t) 4 (omega arith)
-
       test : joining ≡ false
       test = rw (at-phase, second) (sym w)
 

@@ -14,7 +14,8 @@ use Rattle.sets.proofs.Bits.{bit-any, bit-none}
 use Rattle.sets.proofs.Loops.{block-of, digit-of}
 use Rattle.state.specs.View.{in-set, claim-in, claim-of, mark-of, COPIED, WRITTEN, CLAIM, CLAIM-X}
 use Rattle.state.specs.Fit.{Sets}
-use Rattle.state.proofs.Parts.{set-in, member-in, in-block}
+use Rattle.state.proofs.Parts.{in-block}
+use Rattle.state.proofs.Rows.{set-row}
 use Rattle.submits.specs.Wide.{asks, wide-in}
 
 -- by the code's own names for the words
@@ -54,7 +55,7 @@ by-marks false false false true h = refl
 module _ {m : ℕ} {s : List ℕ} (z : Sets m s) (t : ℕ) (t32 : t < 32) where
   by-row : (r k : ℕ) → k < m → in-set m r s t k ≡ bit (word s (r + t) (k / 64)) (k % 64)
   unfolding in-row
-  by-row r k h = set-in m r s t k t32 ∙ member-in m s (r + t) k h
+  by-row r k h = set-row m s r t32 k h
 
   asks-wider : (k : ℕ) → k < m → wider (claim-in m s t k) (mark-of (in-set m COPIED s t k) (in-set m WRITTEN s t k)) ≡ asks s t (k / 64) (k % 64)
   unfolding asks

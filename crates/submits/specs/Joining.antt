@@ -1,13 +1,13 @@
 -- What the parts of a save's joining do to the slices.
 use Prim.Native.Nat.{ℕ, _+_, _≤_, _<_}
 use mathlib.Core.Path.{_≡_}
-use mathlib.Core.Bool.{true, not, _&&_, _||_}
+use mathlib.Core.Bool.{not, _&&_, _||_}
 use mathlib.Core.Logic.{_≢_}
 use mathlib.Core.List.{List}
 use lib.ListN.{length, getD, set}
 use lib.Dec.{eqb}
 use Rattle.sets.specs.Bit.{bit, word, blocks}
-use Rattle.state.specs.View.{part, placed, PHASE, FAILED, ORDER, PLACE, PLACED, BEFORE, JOINED, QUEUE, COPIED, WRITTEN, CLAIM, CLAIM-X, rows}
+use Rattle.state.specs.View.{placed, PHASE, FAILED, ORDER, PLACE, PLACED, BEFORE, JOINED, QUEUE, COPIED, WRITTEN, CLAIM, CLAIM-X, rows}
 
 -- in the first n blocks save t claims beside its claim what it has copied, with X what it has written; nothing else has changed
 pub record Claimed (n t : ℕ) (s s′ : List ℕ) : Type 0 where

@@ -12,19 +12,13 @@ use borrow.Author.Tests.{eq-eqb, ne-eqb}
 use Rattle.rules.specs.Table.{any}
 use Rattle.rules.proofs.Table.{same?}
 use Rattle.sets.specs.Bit.{bit, low, Rest}
-use Rattle.sets.specs.Loop.{Over, done}
+use Rattle.sets.specs.Loop.{Over, done, of-block, Inside}
 use Rattle.sets.proofs.Bits.{bit-none}
-use Rattle.sets.proofs.Loops.{block-of, digit-of, other-digit, over-first, low-small, low-in, done-here, over-on, done-now, done-same, done-none, done-all}
+use Rattle.sets.proofs.Loops.{over-first, done-here, over-on, done-now, done-same, done-none, done-all, at-digit, not-yet, one-more, done-more}
 use Rattle.state.specs.View.{QUEUE}
-use Rattle.takes.specs.Take.{Entered, of-block, is-behind, late}
+use Rattle.takes.specs.Take.{Entered, is-behind, late}
 
 -- ---- One sheet
-
-pub swap : (a b : Bool) → (a && b) ≡ (b && a)
-swap true true = refl
-swap true false = refl
-swap false true = refl
-swap false false = refl
 
 module _ (q : List ℕ) (k t : ℕ) (long : QUEUE + 2 * k + 1 < length q) (v y : ℕ) (x : Bool) (ev : (u : ℕ) → bit v u ≡ (bit (getD q (QUEUE + 2 * k) 0) u || eqb u t))
     (ey : (u : ℕ) → bit y u ≡ (bit (getD q (QUEUE + 2 * k + 1) 0) u || (x && eqb u t))) where
@@ -113,54 +107,26 @@ module _ {m t j ours xs copied : ℕ} {seen w : List ℕ} where
     λ i. g .failed i ∙ rw (e, done-all ours i),
   )
 
-  -- one sheet more
-  module _ {q₀ q : List ℕ} {fails left : ℕ} (g : Going m t j ours xs copied seen w q₀ q fails left) (some : left ≢ 0) where
-    abbrev k₀ : ℕ
-    k₀ = 64 * j + low left
-
-    digit : low left < 64
-    digit = low-small (g .over) some
-
-    not-yet : done ours left (low left) ≡ false
-    not-yet = done-here (g .over) some
-
-    module _ (inside : k₀ < m) {r : ℕ} (e : Rest left r) where
-      one-more : (f : ℕ → Bool) (k : ℕ) → of-block j (λ i. done ours r i && f i) k ≡ (of-block j (λ i. done ours left i && f i) k || (eqb k k₀ && f (low left)))
-      one-more f k = same? k k₀
-          (λ q. rw (q, block-of j (low left) digit, digit-of j (low left) digit, eq-eqb j j refl, eq-eqb k₀ k₀ refl, done-now (g .over) some e, not-yet))
-          (λ d. rw (ne-eqb k k₀ d) (same? (k / 64) j
-          (λ q. rw (q, eq-eqb j j refl, done-same (g .over) some e (k % 64) (other-digit j (low left) digit k q d)) (sym (or-false _)))
-          (λ q. rw (ne-eqb (k / 64) j q))))
-
-      pub going-on : {q₁ : List ℕ} {c x y h : Bool} {fails₁ : ℕ} → c ≡ bit copied (low left) → y ≡ is-behind m seen w t c k₀
-          → x ≡ bit xs (low left) → Entered m t (λ i. eqb i k₀) (λ i. eqb i k₀ && x) q q₁ → h ≡ any 64 (bit (getD q (QUEUE + 2 * k₀ + 1) 0))
-          → ((i : ℕ) → bit fails₁ i ≡ (bit fails i || ((h || y) && eqb i (low left)))) → Going m t j ours xs copied seen w q₀ q₁ fails₁ r
-      going-on {q₁} {c} {x} {y} {h} {fails₁} ec ey ex en eh eb = record {
-        over = over-on (g .over) some e;
-        entered = enter-both (g .entered) en
-            (λ k l. plain r k ∙ one-more (λ i. true) k ∙ rw (sym (plain left k)) (ap (λ (b : Bool). of-block j (done ours left) k || b) (and-true (eqb k k₀))))
-            (λ k l. one-more (bit xs) k ∙ rw (← ex));
-        failed = λ i. eb i ∙ rw (g .failed i) (same? i (low left)
-            (λ z. rw (z, eq-eqb (low left) (low left) refl, not-yet, done-now (g .over) some e) (and-true (h || y) ∙ rw (eh, ey, held-same (g .entered) k₀ inside hidden, ec)))
-            (λ z. rw (ne-eqb i (low left) z, and-false (h || y), done-same (g .over) some e i z) (or-false _)));
-      }
-        where
-          plain : (l k : ℕ) → of-block j (done ours l) k ≡ of-block j (λ i. done ours l i && true) k
-          plain l k = ap (λ (b : Bool). eqb (k / 64) j && b) (sym (and-true (done ours l (k % 64))))
-
-          hidden : of-block j (λ i. done ours left i && bit xs i) k₀ ≡ false
-          hidden = rw (block-of j (low left) digit, digit-of j (low left) digit, not-yet) (and-false (eqb j j))
-
--- the same by the code's digit i and the words that it has read
-module _ {m t j ours xs copied : ℕ} {seen w q₀ q : List ℕ} {fails left : ℕ} (g : Going m t j ours xs copied seen w q₀ q fails left) (some : left ≢ 0)
-    (inside : (i : ℕ) → i < 64 → bit ours i ≡ true → 64 * j + i < m) {i : ℕ} (ei : i ≡ low left) where
-  pub at-digit : (i < 64) × (64 * j + i < m)
-  at-digit = rw ei (low-small (g .over) some, inside (low left) (low-small (g .over) some) (low-in (g .over) some))
+-- one sheet more, by the code's digit i and the words that it has read
+module _ {m t j ours xs copied : ℕ} {seen w q₀ q : List ℕ} {fails left : ℕ} (g : Going m t j ours xs copied seen w q₀ q fails left) (some : left ≢ 0) (inside : Inside m j ours) {i : ℕ} (ei : i ≡ low left) where
+  here : (i < 64) × (64 * j + i < m)
+  here = at-digit (g .over) some j inside ei
 
   pub at-sheet : QUEUE + 2 * m ≤ length q₀ → QUEUE + 2 * (64 * j + i) + 1 < length q
-  at-sheet h = rw (g .entered .long) (omega (arith, at-digit))
+  at-sheet h = rw (g .entered .long) (omega (arith, here))
 
   pub going-step : {r : ℕ} {q₁ : List ℕ} {c x y h : Bool} {fails₁ : ℕ} → Rest left r → c ≡ bit copied i → y ≡ is-behind m seen w t c (64 * j + i)
       → x ≡ bit xs i → Entered m t (λ k. eqb k (64 * j + i)) (λ k. eqb k (64 * j + i) && x) q q₁ → h ≡ any 64 (bit (getD q (QUEUE + 2 * (64 * j + i) + 1) 0))
       → ((k : ℕ) → bit fails₁ k ≡ (bit fails k || ((h || y) && eqb k i))) → Going m t j ours xs copied seen w q₀ q₁ fails₁ r
-  going-step = rw ei (λ e ec ey ex en eh eb. going-on g some (inside (low left) (low-small (g .over) some) (low-in (g .over) some)) e ec ey ex en eh eb)
+  going-step {y = y} {h = h} e ec ey ex en eh eb = record {
+    over = over-on (g .over) some e;
+    entered = enter-both (g .entered) en
+        (λ k _. done-more (g .over) some j e k ∙ rw (← ei))
+        (λ k _. one-more (g .over) some j e (bit xs) k ∙ rw (← ei, ← ex));
+    failed = λ k. eb k ∙ rw (g .failed k) (same? k i
+        (λ z. rw (z, eq-eqb i i refl, ei, done-here (g .over) some, done-now (g .over) some e) (and-true (h || y) ∙ rw (eh, ey, held, ec, ei)))
+        (λ z. rw (ne-eqb k i z, and-false (h || y), done-same (g .over) some e k (λ d. z (d ∙ sym ei))) (or-false _)));
+  }
+    where
+      held : any 64 (bit (getD q (QUEUE + 2 * (64 * j + i) + 1) 0)) ≡ any 64 (bit (getD q₀ (QUEUE + 2 * (64 * j + i) + 1) 0))
+      held = held-same (g .entered) (64 * j + i) (here .1) (rw ei (not-yet (g .over) some j (bit xs)))

@@ -22,11 +22,12 @@ use Rattle.state.specs.Lent.{taking, Moves, Keeps}
 use Rattle.state.specs.declared.Verdict.{Verdict}
 use Rattle.state.specs.declared.Verdict.the-variants.{Valid}
 use Rattle.state.specs.declared.Answer.the-variants.{Took, Refused}
-use Rattle.state.proofs.Parts.{part-in, part-set}
+use Rattle.state.proofs.Keeping.{placed-same, place-same}
 use Rattle.state.proofs.Known.{small, order-length}
+use Rattle.state.proofs.Parts.{part-in, part-set}
 use Rattle.state.proofs.Steps.{refused, accepted, same-state}
 use Rattle.takes.specs.Take.{Taken}
-use Rattle.takes.proofs.Keeping.{placed-same, place-same, apart, queue-apart, kept-count}
+use Rattle.takes.proofs.Keeping.{apart, queue-apart, kept-count}
 use Rattle.takes.proofs.Taking as taking-last
 
 -- what is kept of the lent slices is kept among the others
@@ -76,10 +77,10 @@ module _ {m : ℕ} {b s q : List ℕ} (r : Ready m b s q) (seen w : List ℕ) (n
           accepted
           (λ tally. rw (lt-ltb n (getD b NODES 0) nn, order-length (r .kept .sized), count-p, lt-ltb p (placed q) next))
           (λ tally. rw f (same-state refl refl
-          (fun-ext (λ k. rw (place-same b q q₁ e, placed-same b q q₁ e) (ap (λ (f : ℕ → ℕ). entries (order-in b) (place-in q) (bit (f k)) (placed q)) (queue-apart q n (p + 1) node8 m))))
+          (fun-ext (λ k. rw (place-same e, placed-same e) (ap (λ (f : ℕ → ℕ). entries (order-in b) (place-in q) (bit (f k)) (placed q)) (queue-apart q n (p + 1) node8 m))))
           refl refl refl refl refl refl
-          (ap (λ (z : ℕ). take z (order-in b)) (placed-same b q q₁ e))
-          (place-same b q q₁ e)
+          (ap (λ (z : ℕ). take z (order-in b)) (placed-same e))
+          (place-same e)
           (part-set TAKEN 8 q n (p + 1) node8 (let a = r .kept .sized .queues in let c = node8 in omega arith) ∙ rw (add-one p, count-p))
           refl))
           (λ tally. rw (f, next-here x))

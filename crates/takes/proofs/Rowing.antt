@@ -8,15 +8,16 @@ use native.Mathlib.Omega.{arith}
 use native.Mathlib.Numerals.{add-one}
 use lib.ListN.{length}
 use lib.Dec.{eqb, ltb}
-use borrow.Author.Tests.{eq-eqb, ne-eqb, lt-ltb, le-ltb, ltb-true}
+use borrow.Author.Tests.{ne-eqb, lt-ltb, le-ltb, ltb-true}
 use Rattle.rules.proofs.Table.{bool, same?, below?, clash, and-l}
 use Rattle.sets.specs.Bit.{bit, low, word, in-row, stride, blocks}
+use Rattle.sets.specs.Loop.{of-block, Inside}
 use Rattle.sets.proofs.Bits.{bit-none, bit-past, tz-in, tz-lt, tz-first}
-use Rattle.sets.proofs.Loops.{some-left, block-of, digit-of}
+use Rattle.sets.proofs.Loops.{some-left, block-of, digit-of, before-first, next-block}
 use Rattle.state.specs.View.{rows, COPIED, CLAIM, CLAIM-X, HELD, OWNED, QUEUE}
 use Rattle.state.specs.Fit.{Ends}
 use Rattle.state.specs.Stored.{Stored}
-use Rattle.takes.specs.Take.{Entered, of-block, before-block, late, ours, ours-x, fails, First, Rowing}
+use Rattle.takes.specs.Take.{Entered, late, ours, ours-x, fails, First, Rowing}
 use Rattle.takes.proofs.Entering.{enter-none, enter-both, held-same}
 
 -- ---- The first sheet of those that fail
@@ -83,17 +84,9 @@ module _ {m n t : ℕ} {seen w s₀ s q₀ q : List ℕ} {first j : ℕ} (g : Ro
     unfolding in-row
     ours-at k e = rw (e, our₀ (k % 64))
 
-    pub row-inside : Ends m s₀ → (i : ℕ) → i < 64 → bit our i ≡ true → 64 * j + i < m
+    pub row-inside : Ends m s₀ → Inside m j our
     row-inside ends i l b = below? (64 * j + i) m (λ h. h)
         (λ h. clash (bit (word s₀ (CLAIM + t) j) i) (and-l (bit (word s₀ (CLAIM + t) j) i) (bit (word s₀ (OWNED + n) j) i) (sym (our₀ i) ∙ b)) (ends (CLAIM + t) j i (omega arith) jb l h))
-
-    -- the blocks before the next
-    next-block : (f h : ℕ → Bool) (k : ℕ) → (k / 64 ≡ j → f k ≡ h (k % 64)) → before-block (suc j) f k ≡ (before-block j f k || of-block j h k)
-    next-block f h k e = same? (k / 64) j
-        (λ z. rw (z, lt-ltb j (suc j) (omega arith), le-ltb j j (omega arith), eq-eqb j j refl) (e z))
-        (λ z. rw (ne-eqb (k / 64) j z) (below? (k / 64) j
-        (λ l. rw (lt-ltb (k / 64) j l, lt-ltb (k / 64) (suc j) (omega arith)) (sym (or-false (f k))))
-        (λ l. rw (le-ltb (k / 64) j l, le-ltb (k / 64) (suc j) (omega arith)))))
 
     module _ (ends : Ends m s₀) {s₁ q₁ : List ℕ} {x first₁ : ℕ} (hold : Stored (HELD + t + stride * j) (λ c. bit (word s (HELD + t) j) c || bit our c) s s₁)
         (en : Entered m t (of-block j (bit our)) (of-block j (λ i. bit our i && bit (word s₁ (CLAIM-X + t) j) i)) q q₁)
@@ -125,8 +118,8 @@ module _ {m n t : ℕ} {seen w s₀ s q₀ q : List ℕ} {first j : ℕ} (g : Ro
       pub row-on : Rowing m n t seen w s₀ s₁ q₀ q₁ first₁ (j + 1)
       row-on = rw (add-one j) (record {
         entered = enter-both (g .entered) en
-            (λ k l. next-block (ours s₀ n t) (bit our) k (ours-at k))
-            (λ k l. next-block (ours-x s₀ n t) (λ i. bit our i && bit (word s₁ (CLAIM-X + t) j) i) k (λ e. rw (ours-at k e, x-at k e)));
+            (λ k _. next-block (ours s₀ n t) (bit our) j k (ours-at k))
+            (λ k _. next-block (ours-x s₀ n t) (λ i. bit our i && bit (word s₁ (CLAIM-X + t) j) i) j k (λ e. rw (ours-at k e, x-at k e)));
         held = record {
           long = hold .long ∙ g .held .long;
           here = λ i c l. same? i j
@@ -155,7 +148,7 @@ module _ {m n t : ℕ} {seen w s₀ s q₀ q : List ℕ} {first j : ℕ} (g : Ro
 -- at first
 pub row-first : (m n t : ℕ) (seen w s q : List ℕ) → Rowing m n t seen w s s q q m 0
 row-first m n t seen w s q = record {
-  entered = enter-none q (λ k l. rw (le-ltb (k / 64) 0 (omega arith))) (λ k l. rw (le-ltb (k / 64) 0 (omega arith)));
+  entered = enter-none q (λ k _. before-first (ours s n t) k) (λ k _. before-first (ours-x s n t) k);
   held = record {
     long = refl;
     here = λ i c l. rw (le-ltb i 0 (omega arith)) (sym (or-false (bit (word s (HELD + t) i) c)));
@@ -173,6 +166,3 @@ row-first m n t seen w s q = record {
 -- all blocks are done
 pub row-end : {m n t : ℕ} {seen w s₀ s q₀ q : List ℕ} {first j all : ℕ} → Rowing m n t seen w s₀ s q₀ q first j → all ≡ blocks m → j ≤ all → all ≤ j → Rowing m n t seen w s₀ s q₀ q first (blocks m)
 row-end {m = m} {j = j} g e a b = let z : j ≡ blocks m = omega arith in rw z at g
-
-pub in-blocks : (m : ℕ) {j all : ℕ} → all ≡ blocks m → j < all → j < blocks m
-in-blocks m e h = rw e at h

@@ -15,9 +15,10 @@ use Rattle.state.specs.View.{part, queued, queued-x, rule-of, BEFORE, FAILED, Q
 use Rattle.state.specs.Fit.{Last, Kept}
 use Rattle.state.specs.declared.Rule.{Rule}
 use Rattle.state.specs.declared.Verdict.the-variants.{Valid, Invalid}
+use Rattle.state.proofs.Known.{x-queued}
 use Rattle.state.proofs.Parts.{part-in, queue-in, queue-x-in}
 use Rattle.queues.specs.Front.{Ranked, fronted}
-use Rattle.queues.proofs.Fronts.{fronted-same, ranked-within, x-queued}
+use Rattle.queues.proofs.Fronts.{fronted-same, ranked-within}
 use Rattle.takes.specs.Take.{Entered, ours, ours-x, Rowing, RuleAt, Taken}
 use Rattle.takes.proofs.Keeping.{kept-entered}
 
@@ -68,13 +69,13 @@ module _ {m n t : ℕ} {seen w s s′ q q′ : List ℕ} {first : ℕ} (g : Rowi
   -- what the rule's test asks of the queue
   module _ (kept : Kept m b s q) (t32 : t < 32) (last : Last b q t) (h : first < m) where
     kept′ : Kept m b s′ q′
-    kept′ = kept-entered (g .held) t32 all-blocks kept last
+    kept′ = kept-entered (g .held) all-blocks t32 kept last
 
     pub rule-ranked : (a : ℕ) → ((u : ℕ) → bit a u ≡ true → queued m q′ first u ≡ true) → Ranked q′ a
     rule-ranked = ranked-within kept′ first h
 
     pub rule-x : (u : ℕ) → queued-x m q′ first u ≡ true → queued m q′ first u ≡ true
-    rule-x = x-queued kept′ first h
+    rule-x = x-queued kept′ h
 
     pub rule-long : QUEUE + 2 * m ≤ length q′
     rule-long = kept′ .sized .queues

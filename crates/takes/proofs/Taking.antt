@@ -1,8 +1,7 @@
 -- TAKE at a last place: what the loops leave is its rule's effect, and what they find its rule's verdict.
 use Prim.Native.Nat.{ℕ, suc, _+_, _*_, _≤_, _<_}
-use mathlib.Core.Path.{_≡_, refl, sym, ap, _∙_, fun-ext, subst}
-use mathlib.Core.Bool.{Bool, true, false, not, _&&_, _||_, cond, or-false, or-true, and-false}
-use mathlib.Core.Logic.{_≢_}
+use mathlib.Core.Path.{_≡_, refl, sym, ap, _∙_, fun-ext}
+use mathlib.Core.Bool.{Bool, true, false, _&&_, _||_, cond, or-false, or-true, and-comm, and-false}
 use mathlib.Core.List.{List, [], _∷_, _++_}
 use mathlib.Core.Option.{some}
 use native.Mathlib.Omega.{arith}
@@ -12,7 +11,7 @@ use lib.Seq.{getD-set-other, getD-take}
 use lib.Dec.{eqb, ltb}
 use borrow.Author.Tests.{eq-eqb, ne-eqb, eqb-true, lt-ltb, le-ltb}
 use Rattle.rules.specs.Table.{any, upd}
-use Rattle.rules.specs.State.{State, claims, has-copy, at}
+use Rattle.rules.specs.State.{State, claims, at}
 use Rattle.rules.specs.Bytes.{Take}
 use Rattle.rules.specs.Steps as rules
 use Rattle.rules.specs.Steps.{holds, at-front, x-on, owns, behind, fails-at, finds-invalid, rule-met, cause-at, first-cause, verdict, next-is-last}
@@ -21,30 +20,28 @@ use Rattle.rules.proofs.Places.{entries, entries-in, entries-cong}
 use Rattle.rules.proofs.Causes.{passing, failing, found-valid, found-invalid}
 use Rattle.sets.specs.Bit.{bit, in-row}
 use Rattle.state.specs.Slices.{Slices}
-use Rattle.state.specs.View.{as-phase, set?, part, in-set, owner-in, placed, place-in, order-in, queue-of, queue-x-of, queued, queued-x, mark-of, claim-of, claim-in, shown, no-tally, verdict-of, rule-of, COPIED, WRITTEN, CLAIM, CLAIM-X, OWNED, PHASE, FAILED, RUNS, NODES, TAKEN, BEFORE, QUEUE}
+use Rattle.state.specs.View.{part, in-set, owner-in, placed, place-in, order-in, queue-of, queue-x-of, queued, queued-x, mark-of, claim-of, claim-in, shown, no-tally, verdict-of, rule-of, COPIED, WRITTEN, CLAIM, CLAIM-X, OWNED, FAILED, RUNS, NODES, TAKEN, BEFORE, QUEUE}
 use Rattle.state.specs.Fit.{Last, Kept, Ready}
 use Rattle.state.specs.Lent.{taking, Steps}
 use Rattle.state.specs.declared.Rule.{Rule}
 use Rattle.state.specs.declared.Verdict.{Verdict}
 use Rattle.state.specs.declared.Verdict.the-variants.{Valid, Invalid}
 use Rattle.state.specs.declared.Answer.the-variants.{Took}
-use Rattle.state.proofs.Tables.{upd-by}
-use Rattle.state.proofs.Parts.{part-in, part-same, part-apart, part-set, part-view, queue-in, queue-past, queue-x-in, flat-in, member-in, member-past, set-in}
-use Rattle.state.proofs.Known.{small, order-length, order-same, kept-byte}
-use Rattle.state.proofs.Waiting.{one-more, holds-any}
+use Rattle.state.proofs.Bytes.{phase-in, failed-in, Bytes, bytes-same, mark-stored, marks-same}
+use Rattle.state.proofs.Codes.{copy-code, claims-code}
+use Rattle.state.proofs.Keeping.{Ahead, placed-same, place-same, before-same, last-on, Entries, entries-sets, entries-owner}
+use Rattle.state.proofs.Known.{small, order-length, kept-byte, owner-row, x-entries}
+use Rattle.state.proofs.Parts.{part-in, part-same, part-set, queue-in, queue-past, queue-x-in, flat-in}
+use Rattle.state.proofs.Rows.{set-row, set-none}
 use Rattle.state.proofs.Steps.{accepted, same-state}
-use Rattle.queues.proofs.Fronts.{fronted-same, front-code, x-entries}
+use Rattle.state.proofs.Waiting.{one-more, holds-any}
+use Rattle.queues.proofs.Fronts.{fronted-same, front-code}
 use Rattle.takes.specs.Take.{Entered, ours, ours-x, fails, ahead, ahead-x, RuleAt, Finds, Taken}
-use Rattle.takes.proofs.Entering.{swap}
-use Rattle.takes.proofs.Keeping.{placed-same, place-same, before-same, last-on, apart, queue-apart, kept-count, sets-same, owners-same, queued-code, kept-entered}
+use Rattle.takes.proofs.Keeping.{apart, queue-apart, kept-count, queued-code, entered, kept-entered}
 
 -- the bytes after: the failed mark alone
-record Bytes (b b′ : List ℕ) (t : ℕ) (bad : Bool) : Type 0 where
-  nodes : getD b′ NODES 0 ≡ getD b NODES 0
-  phase : part PHASE 32 b′ ≡ part PHASE 32 b
-  failed : _≡_ {A = ℕ → Bool} (λ u. set? (part FAILED 32 b′ u)) (upd (λ u. set? (part FAILED 32 b u)) t (set? (part FAILED 32 b t) || bad))
-  runs : part RUNS 32 b′ ≡ part RUNS 32 b
-  order : order-in b′ ≡ order-in b
+abbrev Marked : (b b′ : List ℕ) (t : ℕ) → Bool → Type 0
+Marked b b′ t bad = Bytes b b′ (phase-in b) (upd (failed-in b) t (failed-in b t || bad)) (part RUNS 32 b)
 
 -- save t is the next for node n, at its last place; the node's count is already one more
 module _ {m : ℕ} {b s q : List ℕ} (r : Ready m b s q) (n t p : ℕ) (n8 : n < 8) (t32 : t < 32)
@@ -59,7 +56,7 @@ module _ {m : ℕ} {b s q : List ℕ} (r : Ready m b s q) (n t p : ℕ) (n8 : n 
   kept₁ = kept-count q n (p + 1) n8 (r .kept)
 
   pub last₁ : Last b q₁ t
-  last₁ = last-on b q q₁ (apart q n (p + 1) n8) t t-last
+  last₁ = last-on (apart q n (p + 1) n8) b t t-last
 
   module _ (seen w : List ℕ) (x : Slices) where
     abbrev state : State
@@ -69,41 +66,28 @@ module _ {m : ℕ} {b s q : List ℕ} (r : Ready m b s q) (n t p : ℕ) (n8 : n 
 
     module _ (k : ℕ) (km : k < m) where
       owns-code : owns state n k ≡ in-row s (OWNED + n) k
-      owns-code = sym (r .kept .sets .owners n k n8 km) ∙ member-in m s (OWNED + n) k km
+      owns-code = owner-row (r .kept) km n n8
 
-      row-code : (i : ℕ) → in-set m i s t k ≡ in-row s (i + t) k
-      row-code i = set-in m i s t k t32 ∙ member-in m s (i + t) k km
-
-      claims-code : claims (state .claim t k) ≡ in-row s (CLAIM + t) k
-      claims-code = by-sets (in-set m CLAIM s t k) (in-set m CLAIM-X s t k) (r .kept .sets .claimed t k) ∙ row-code CLAIM
-        where
-          by-sets : (c y : Bool) → (y ≡ true → c ≡ true) → claims (claim-of c y) ≡ c
-          by-sets c true e = sym (e refl)
-          by-sets true false e = refl
-          by-sets false false e = refl
+      claimed : claims (state .claim t k) ≡ in-row s (CLAIM + t) k
+      claimed = claims-code (in-set m CLAIM s t k) (in-set m CLAIM-X s t k) (r .kept .sets .claimed t k) ∙ set-row m s CLAIM t32 k km
 
       ours-code : (owns state n k && claims (state .claim t k)) ≡ ours s n t k
-      ours-code = rw (owns-code, claims-code) (swap (in-row s (OWNED + n) k) (in-row s (CLAIM + t) k))
+      ours-code = rw (owns-code, claimed) (and-comm (in-row s (OWNED + n) k) (in-row s (CLAIM + t) k))
 
       holds-code : holds (x-on (state .claim) k) (state .queue k) ≡ any 64 (bit (queue-x-of m q k))
       holds-code = holds-any (order-in b) (place-in q) (placed q) (small r) (queued m q k) (λ u e. r .kept .queues .listed u k km e) (x-on (claim-in m s) k)
-          ∙ any-cong 64 (λ u. queued m q k u && x-on (claim-in m s) k u) (bit (queue-x-of m q k)) (λ u l. sym (x-entries (r .kept) k km u))
+          ∙ any-cong 64 (λ u. queued m q k u && x-on (claim-in m s) k u) (bit (queue-x-of m q k)) (λ u l. sym (x-entries (r .kept) km u))
 
       x-word : getD q₁ (QUEUE + 2 * k + 1) 0 ≡ queue-x-of m q k
       x-word = getD-set-other q (TAKEN + n) (QUEUE + 2 * k + 1) (p + 1) 0 (λ e. omega arith) ∙ sym (queue-x-in m q k km)
 
       behind-code : behind state t k ≡ (in-row s (COPIED + t) k && ltb (getD seen (t * m + k) 0) (getD w (m + k) 0))
       behind-code = rw (
-        by-sets (in-set m COPIED s t k) (in-set m WRITTEN s t k) (r .kept .sets .written t k),
-        row-code COPIED,
+        copy-code (in-set m COPIED s t k) (in-set m WRITTEN s t k) (r .kept .sets .written t k),
+        set-row m s COPIED t32 k km,
         flat-in m seen t k km,
         part-in m m w k km,
       )
-        where
-          by-sets : (c y : Bool) → (y ≡ true → c ≡ true) → has-copy (mark-of c y) ≡ c
-          by-sets c true e = sym (e refl)
-          by-sets true false e = refl
-          by-sets false false e = refl
 
       fails-code : (owns state n k && fails-at state t k) ≡ fails m s q₁ seen w n t k
       fails-code = both-and (owns state n k) (claims (state .claim t k)) (holds (x-on (state .claim) k) (state .queue k) || behind state t k)
@@ -116,7 +100,7 @@ module _ {m : ℕ} {b s q : List ℕ} (r : Ready m b s q) (n t p : ℕ) (n8 : n 
       -- where it is the save's and the node's
       module _ (mine : ours s n t k ≡ true) where
         owner-here : owner-in m s 8 k ≡ n
-        owner-here = eqb-true (owner-in m s 8 k) n (sym (r .kept .sets .owners n k n8 km) ∙ member-in m s (OWNED + n) k km ∙ and-r (in-row s (CLAIM + t) k) (in-row s (OWNED + n) k) mine)
+        owner-here = eqb-true (owner-in m s 8 k) n (owns-code ∙ and-r (in-row s (CLAIM + t) k) (in-row s (OWNED + n) k) mine)
 
         -- an entry there has an earlier place
         earlier : (u : ℕ) → queued m q k u ≡ true → place-in q u < place-in q t
@@ -132,7 +116,7 @@ module _ {m : ℕ} {b s q : List ℕ} (r : Ready m b s q) (n t p : ℕ) (n8 : n 
         -- the entries before save t's own are those that were there
         module _ {q′ : List ℕ} (en : Entered m t (ours s n t) (ours-x s n t) q₁ q′) where
           before-now : part BEFORE 32 q′ ≡ part BEFORE 32 q
-          before-now = before-same b q₁ q′ (λ i h d. en .rest i h) ∙ before-same b q q₁ (apart q n (p + 1) n8)
+          before-now = before-same (record { same = λ i h _. en .rest i h }) ∙ before-same (apart q n (p + 1) n8)
 
           -- a word with save t added, without what is not before it
           without-t : (c c′ u : ℕ) (h : Bool) → bit c′ u ≡ (bit c u || (h && eqb u t)) → (bit c u ≡ true → queued m q k u ≡ true) → bit c u ≡ (bit c′ u && bit (part BEFORE 32 q′ t) u)
@@ -152,7 +136,7 @@ module _ {m : ℕ} {b s q : List ℕ} (r : Ready m b s q) (n t p : ℕ) (n8 : n 
 
           ahead-x-code : (u : ℕ) → queued-x m q k u ≡ ahead-x q′ t k u
           ahead-x-code u = without-t (queue-x-of m q k) (getD q′ (QUEUE + 2 * k + 1) 0) u (ours-x s n t k) (en .queue-x k u km ∙ rw x-word)
-              (λ y. and-l (queued m q k u) (x-on (claim-in m s) k u) (sym (x-entries (r .kept) k km u) ∙ y))
+              (λ y. and-l (queued m q k u) (x-on (claim-in m s) k u) (sym (x-entries (r .kept) km u) ∙ y))
 
           rule-code : (u : Rule) → RuleAt q′ t k u → rule-met (at-front (x-on (state .claim) k) (state .queue k)) (holds (x-on (state .claim) k) (state .queue k)) true ≡ some (rule-of u)
           rule-code u e = rw (← front-code r k km, holds-code, ← fronted-same q q′ (queue-of m q k) (queue-of m q k) (queue-x-of m q k) (queue-x-of m q k) before-now (λ u l. refl) (λ u l. refl))
@@ -176,15 +160,15 @@ module _ {m : ℕ} {b s q : List ℕ} (r : Ready m b s q) (n t p : ℕ) (n8 : n 
 
       -- ---- The state after
 
-      same : (i : ℕ) → i < QUEUE → ((n : ℕ) → n < 8 → i ≢ TAKEN + n) → getD q′ i 0 ≡ getD q i 0
-      same i h d = tk .entered .rest i h ∙ apart q n (p + 1) n8 i h d
+      ahead-same : Ahead q q′
+      ahead-same = record { same = λ i h d. tk .entered .rest i h ∙ apart q n (p + 1) n8 .same i h d }
 
       taken-set : part TAKEN 8 q′ ≡ upd (part TAKEN 8 q) n (suc (part TAKEN 8 q n))
       taken-set = part-same TAKEN 8 q₁ q′ (λ i h. tk .entered .rest (TAKEN + i) (omega arith))
           ∙ part-set TAKEN 8 q n (p + 1) n8 (let a = r .kept .sized .queues in omega arith) ∙ rw (add-one p, count)
 
       queue-now : (k u : ℕ) → k < m → queued m q′ k u ≡ (queued m q k u || (ours s n t k && eqb u t))
-      queue-now k u l = queued-code (tk .held) t32 (tk .entered) k u l ∙ rw (queue-apart q n (p + 1) n8 m)
+      queue-now k u l = queued-code (tk .held) (tk .entered) k u l ∙ rw (queue-apart q n (p + 1) n8 m)
 
       queue-code : (k : ℕ) → entries (order-in b) (place-in q) (queued m q′ k) (placed q) ≡ cond (owns state n k && claims (state .claim t k)) (state .queue k ++ t ∷ []) (state .queue k)
       queue-code k = below? k m
@@ -196,31 +180,18 @@ module _ {m : ℕ} {b s q : List ℕ} (r : Ready m b s q) (n t p : ℕ) (n8 : n 
           (λ l. rw (unclaimed l, and-false (owns state n k)) (ap (λ (z : ℕ). entries (order-in b) (place-in q) (bit z) (placed q)) (queue-past m q′ k l ∙ sym (queue-past m q k l))))
         where
           unclaimed : m ≤ k → claims (state .claim t k) ≡ false
-          unclaimed l = rw (none-at CLAIM, none-at CLAIM-X)
-            where
-              none-at : (i : ℕ) → in-set m i s t k ≡ false
-              none-at i = set-in m i s t k t32 ∙ member-past m s (i + t) k l
+          unclaimed l = rw (set-none m s CLAIM t32 k l, set-none m s CLAIM-X t32 k l)
 
-      bytes-by : (u : Verdict) → Finds m b q′ t (fails m s q₁ seen w n t) b′ u → Bytes b b′ t (finds-invalid state n t)
-      bytes-by Valid f = subst (λ (z : List ℕ). Bytes b z t (finds-invalid state n t)) (sym (f .0)) (record {
-        nodes = refl;
-        phase = refl;
-        failed = upd-by (λ u. set? (part FAILED 32 b u)) (λ u. set? (part FAILED 32 b u)) t (set? (part FAILED 32 b t) || finds-invalid state n t)
-            (rw (found-valid state n t (finding Valid f)) (sym (or-false (set? (part FAILED 32 b t))))) (λ u d. refl);
-        runs = refl;
-        order = refl;
-      })
-      bytes-by (Invalid c) f = subst (λ (z : List ℕ). Bytes b z t (finds-invalid state n t)) (sym (f .0)) (record {
-        nodes = getD-set-other b (FAILED + t) NODES 1 0 (λ e. omega arith);
-        phase = part-apart PHASE 32 b (FAILED + t) 1 (λ i h e. omega arith);
-        failed = part-view FAILED 32 set? b t 1 t32 (let a = r .kept .sized .bytes in omega arith)
-            ∙ rw (found-invalid state n t (rules.cause (c .sheet) (rule-of (c .rule))) (finding (Invalid c) f), or-true);
-        runs = part-apart RUNS 32 b (FAILED + t) 1 (λ i h e. omega arith);
-        order = order-same b (FAILED + t) 1 (omega arith);
-      })
+      bytes-by : (u : Verdict) → Finds m b q′ t (fails m s q₁ seen w n t) b′ u → Marked b b′ t (finds-invalid state n t)
+      bytes-by Valid f = rw (f .0, found-valid state n t (finding Valid f), ← marks-same (failed-in b) t) (bytes-same b)
+      bytes-by (Invalid c) f = rw (f .0, found-invalid state n t (rules.cause (c .sheet) (rule-of (c .rule))) (finding (Invalid c) f), or-true (failed-in b t))
+          (mark-stored (bytes-same b) (let a = r .kept .sized .bytes in omega arith) t32 1)
 
-      bytes : Bytes b b′ t (finds-invalid state n t)
+      bytes : Marked b b′ t (finds-invalid state n t)
       bytes = bytes-by v (tk .finds)
+
+      en : Entries m t s q₁ s′ q′
+      en = entered (tk .held) (tk .entered)
 
       next-here : rules.next state n ≡ t
       next-here = rw count (getD-take (placed q) (order-in b) p 0 next ∙ here)
@@ -232,17 +203,17 @@ module _ {m : ℕ} {b s q : List ℕ} (r : Ready m b s q) (n t p : ℕ) (n8 : n 
       moves-last nn = accepted
           (λ tally. rw (lt-ltb n (getD b NODES 0) nn, order-length (r .kept .sized), count, lt-ltb p (placed q) next))
           (λ tally. rw (last-here, next-here) (same-state
-          (λ i. record { nodes = bytes .nodes i; sheets = m; owner = owners-same (tk .held) t32 i })
+          (λ i. record { nodes = bytes .nodes i; sheets = m; owner = entries-owner en t32 i })
           refl
-          (fun-ext (λ k. rw (place-same b q q′ same, placed-same b q q′ same, bytes .order) (queue-code k)))
-          (λ i u. as-phase (bytes .phase i u))
-          (λ i u k. mark-of (sets-same (tk .held) t32 COPIED (omega arith) i u k) (sets-same (tk .held) t32 WRITTEN (omega arith) i u k))
+          (fun-ext (λ k. rw (place-same ahead-same, placed-same ahead-same, bytes .order) (queue-code k)))
+          (bytes .phased)
+          (λ i u k. mark-of (entries-sets en COPIED (omega arith) i u k) (entries-sets en WRITTEN (omega arith) i u k))
           refl
-          (λ i u k. claim-of (sets-same (tk .held) t32 CLAIM (omega arith) i u k) (sets-same (tk .held) t32 CLAIM-X (omega arith) i u k))
-          (bytes .failed)
-          (bytes .runs)
-          (rw (placed-same b q q′ same, bytes .order))
-          (place-same b q q′ same)
+          (λ i u k. claim-of (entries-sets en CLAIM (omega arith) i u k) (entries-sets en CLAIM-X (omega arith) i u k))
+          (bytes .marked)
+          (bytes .counted)
+          (rw (placed-same ahead-same, bytes .order))
+          (place-same ahead-same)
           taken-set
           refl))
           (λ tally. rw (last-here, next-here, verdict-code))
@@ -253,7 +224,7 @@ module _ {m : ℕ} {b s q : List ℕ} (r : Ready m b s q) (n t p : ℕ) (n8 : n 
     kept-last = by v (tk .finds)
       where
         kept-b : Kept m b s′ q′
-        kept-b = kept-entered (tk .held) t32 (tk .entered) kept₁ last₁
+        kept-b = kept-entered (tk .held) (tk .entered) t32 kept₁ last₁
 
         by : (u : Verdict) → Finds m b q′ t (fails m s q₁ seen w n t) b′ u → Kept m b′ s′ q′
         by Valid f = rw (f .0) kept-b

@@ -1,5 +1,5 @@
 -- What TAKE's loops do: entries added, sheets that fail, the first of them.
-use Prim.Native.Nat.{ℕ, _+_, _*_, _/_, _%_, _≤_, _<_}
+use Prim.Native.Nat.{ℕ, _+_, _*_, _/_, _≤_, _<_}
 use mathlib.Core.Path.{_≡_}
 use mathlib.Core.Bool.{Bool, true, false, _&&_, _||_}
 use mathlib.Core.List.{List}
@@ -10,6 +10,7 @@ use lib.Dec.{eqb, ltb}
 use Rattle.rules.specs.Table.{any}
 use Rattle.rules.specs.Steps.{rule-met}
 use Rattle.sets.specs.Bit.{bit, word, in-row, blocks}
+use Rattle.sets.specs.Loop.{before-block}
 use Rattle.state.specs.View.{part, rule-of, rows, COPIED, CLAIM, CLAIM-X, HELD, OWNED, FAILED, BEFORE, QUEUE}
 use Rattle.queues.specs.Front.{fronted}
 use Rattle.state.specs.declared.Rule.{Rule}
@@ -24,14 +25,6 @@ pub record Entered (m t : ℕ) (hit hitx : ℕ → Bool) (q q′ : List ℕ) : T
   pub queue : (k u : ℕ) → k < m → bit (getD q′ (QUEUE + 2 * k) 0) u ≡ (bit (getD q (QUEUE + 2 * k) 0) u || (hit k && eqb u t))
   pub queue-x : (k u : ℕ) → k < m → bit (getD q′ (QUEUE + 2 * k + 1) 0) u ≡ (bit (getD q (QUEUE + 2 * k + 1) 0) u || (hitx k && eqb u t))
   pub rest : (i : ℕ) → i < QUEUE → getD q′ i 0 ≡ getD q i 0
-
--- of block j, those that pass the test of their digit
-abbrev pub of-block : (j : ℕ) → (ℕ → Bool) → ℕ → Bool
-of-block j f k = eqb (k / 64) j && f (k % 64)
-
--- of the blocks before j
-abbrev pub before-block : (j : ℕ) → (ℕ → Bool) → ℕ → Bool
-before-block j f k = ltb (k / 64) j && f k
 
 -- ---- Sheets that fail
 

@@ -7,12 +7,13 @@ ghost use lib.Dec.{eqb, ltb};
 ghost use Rattle.rules.specs.Bytes.{Take};
 ghost use Rattle.rules.specs.Table.{any};
 ghost use Rattle.sets.specs.Bit.{bit, low, word, stride, blocks};
+ghost use Rattle.sets.specs.Loop.{of-block, Inside};
 ghost use Rattle.queues.specs.Front.{Ranked};
 ghost use Rattle.state.specs.View.{queued, queued-x, rows, CLAIM, CLAIM-X, COPIED, HELD, OWNED, QUEUE};
 ghost use Rattle.state.specs.Fit.{Table, Ends, Last, Kept, Ready};
 ghost use Rattle.state.specs.Stored.{Stored};
 ghost use Rattle.state.specs.Lent.{taking, Moves, Keeps};
-ghost use Rattle.takes.specs.Take.{Entered, of-block, is-behind, late, Rowing, RuleAt, Taken};
+ghost use Rattle.takes.specs.Take.{Entered, is-behind, late, Rowing, RuleAt, Taken};
 use state::Answer;
 use state::Cause;
 use state::Rule;
@@ -58,7 +59,7 @@ fn enter_block(
 ) -> u64
     requires { ⌜
         (rows + stride * j ≤ length (now s)) × (QUEUE + 2 * m ≤ length (now q)) × Table 32 m (now seen) × Table 2 m (now w)
-        × (m < 65536) × (t < 32) × (j < blocks m) × ((i : _) → i < 64 → bit ours i ≡ true → 64 * j + i < m)
+        × (m < 65536) × (t < 32) × (j < blocks m) × Inside m j ours
         ⌝ }
     ensures { λ _. ⌜ Entered m t (of-block j (bit ours)) (of-block j (λ i. bit ours i && bit (word (now (s .entry)) (CLAIM-X + t) j) i)) (now (q .entry)) (now (q .exit)) ⌝ }
     ensures late { λ r. ⌜ ((i : _) → bit r i ≡ (bit ours i && late m (now (q .entry)) (now (seen .entry)) (now (w .entry)) t (bit (word (now (s .entry)) (COPIED + t) j) i) (64 * j + i))) ⌝ }

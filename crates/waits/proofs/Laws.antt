@@ -62,10 +62,6 @@ module _ (x : ℕ → Bool) (k : ℕ) where
   lines-snoc us (w ∷ vs) v = rw (lines-snoc (us ++ w ∷ []) vs v, append-assoc us (w ∷ []) vs)
       (sym (append-assoc (line-behind x k us w) (lines-behind x k (us ++ w ∷ []) vs) (line-behind x k (us ++ w ∷ vs) v)))
 
-  pub lines-none : lines-behind x k [] [] ≡ []
-  unfolding lines-behind
-  lines-none = refl
-
 -- a save's number has two figures at most
 field-short : (u : ℕ) → u < 32 → length (field u) ≤ 3
 unfolding field

@@ -1,7 +1,7 @@
 -- The lines are the rules' lines of a state that shows the queues and claims what they have.
 use Prim.Native.Nat.{ℕ, zero, suc, _+_, _*_, _≤_, _<_}
 use mathlib.Core.Path.{_≡_, refl, sym, ap, _∙_}
-use mathlib.Core.Bool.{Bool, true, false, or-true}
+use mathlib.Core.Bool.{Bool, true, or-true}
 use mathlib.Core.List.{List, [], _∷_, _++_, append-nil}
 use native.Mathlib.Omega.{arith}
 use native.Mathlib.Nat.{le-refl}
@@ -9,8 +9,8 @@ use lib.ListN.{getD, take}
 use lib.Dec.{eqb}
 use borrow.Author.Tests.{eq-eqb}
 use Rattle.sets.specs.Bit.{bit}
-use Rattle.rules.specs.State.{Claim, shared, State, claims, is-x, at, is-last, by-last}
-use Rattle.rules.specs.Steps.{mem, empty, before, x-on, granted}
+use Rattle.rules.specs.State.{Claim, shared, State, at, is-last, by-last}
+use Rattle.rules.specs.Steps.{mem, empty, x-on}
 use Rattle.rules.specs.Report.{field}
 use Rattle.rules.specs.Showing.{rising, each, ways, waits-for, grant-text, entry-head, entry-line, queue-text, queue-lines}
 use Rattle.rules.proofs.Table.{bool}
@@ -18,6 +18,7 @@ use Rattle.rules.proofs.Places.{by, entries, entries-before, entries-out, by-ou
 use Rattle.rules.proofs.Showing.{granted-alone}
 use Rattle.clipped.proofs.Rows.{each-then, each-one}
 use Rattle.state.specs.View.{claim-of, place-in, order-in, placed, bare, QUEUE}
+use Rattle.state.proofs.Codes.{claims-code, x-code}
 use Rattle.state.proofs.Parts.{queue-in, queue-x-in}
 use Rattle.rows.specs.Rows.{Lined}
 use Rattle.waits.specs.Queues.{those, names-text, entry-text, line-behind, lines-behind, Claimed}
@@ -34,14 +35,6 @@ those-last order place f (suc n) = bool (is-last order place n)
 
 -- ---- One line
 
-is-x-of : (x : Bool) → is-x (claim-of true x) ≡ x
-is-x-of true = refl
-is-x-of false = refl
-
-claims-of : (x : Bool) → claims (claim-of true x) ≡ true
-claims-of true = refl
-claims-of false = refl
-
 -- a granted entry names nobody
 grant-names : (us : List ℕ) → grant-text (empty us) us ≡ names-text (each field us)
 unfolding grant-text names-text each field
@@ -57,7 +50,7 @@ module _ (s : State) (k : ℕ) (order : List ℕ) (place : ℕ → ℕ) (f x : �
     (claimed : (u : ℕ) → f u ≡ true → s .claim u k ≡ claim-of true (x u)) where
   x-same : (u : ℕ) → f u ≡ true → x-on (s .claim) k u ≡ x u
   unfolding x-on
-  x-same u y = rw (claimed u y) (is-x-of (x u))
+  x-same u y = rw (claimed u y) (x-code true (x u))
 
   waits-same : (u : ℕ) → place u < n → at order (place u) ≡ u → f u ≡ true → waits-for s u k ≡ ways (claim-of true (x u)) x (entries order place f (place u))
   waits-same u h o y = rw (claimed u y, queue, entries-before order place f n u h o y)
@@ -66,7 +59,7 @@ module _ (s : State) (k : ℕ) (order : List ℕ) (place : ℕ → ℕ) (f x : �
   line-same : (u : ℕ) → place u < n → at order (place u) ≡ u → f u ≡ true → entry-line s k u ≡ line-behind x k (entries order place f (place u)) u
   unfolding entry-line entry-head line-behind entry-text
   line-same u h o y =
-      rw (granted-alone s u k (rw (claimed u y) (claims-of (x u))), grant-names (waits-for s u k), waits-same u h o y, claimed u y)
+      rw (granted-alone s u k (rw (claimed u y) (claims-code true (x u) (λ _. refl))), grant-names (waits-for s u k), waits-same u h o y, claimed u y)
 
   -- the entries before place p
   lines-same : (p : ℕ) → p ≤ n → each (entry-line s k) (entries order place f p) ≡ lines-behind x k [] (entries order place f p)

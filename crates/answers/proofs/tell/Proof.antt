@@ -1,8 +1,6 @@
 -- The number is stored behind the others, where the room goes so far.
-use mathlib.Core.Path.{refl, sym, ap, _∙_}
-use mathlib.Core.List.{[], _∷_}
+use mathlib.Core.Path.{refl}
 use native.Mathlib.Omega.{arith}
-use Rattle.rules.specs.Sizes.{max-commands}
 use Rattle.clipped.proofs.Laws.{past-end}
 use Rattle.answers.proofs.Passing.{one-told}
 use borrow.Author.Needs.{needs}

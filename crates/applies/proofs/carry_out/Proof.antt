@@ -2,7 +2,7 @@
 use Prim.Native.Nat.{_-_, _+_, _≤_}
 use native.Mathlib.Omega.{arith}
 use Rattle.state.specs.View.{OWNED, WRITTEN}
-use Rattle.leaving.proofs.Rows.{in-blocks, in-reach, ours-inside}
+use Rattle.state.proofs.Rows.{in-blocks, in-reach, ours-inside}
 use Rattle.applies.proofs.Carry.{Carried, carried-first, carried-on, carried-end, rises-on}
 use borrow.Author.Needs.{needs}
 use Rattle.applies.proofs.carry_out.Statement.{statement}
@@ -24,19 +24,19 @@ add-word : tie.Need-add-word Inv-loop μ-loop
 add-word c = search needs
 
 word-requires : tie.Need-word-requires Inv-loop μ-loop
-word-requires c κs = let s = c .before .before .before .before .before .before in let z = in-reach (s .args .m) (s .args .s .now) (c .before .before .blocks2 .ensures) (c .loop-test .taken) (s .pre .0) in (omega (arith, s .pre .4, s .pre .5), z _ (omega (arith, s .pre .4, s .pre .5)))
+word-requires c κs = let s = c .before .before .before .before .before .before in let z = in-reach (s .args .m) (c .before .before .blocks2 .ensures) (c .loop-test .taken) (s .args .s .now) (s .pre .0) in (omega (arith, s .pre .4, s .pre .5), z _ (omega (arith, s .pre .4, s .pre .5)))
 
 add-word-2 : tie.Need-add-word-2 Inv-loop μ-loop
 add-word-2 c = search needs
 
 word-requires-2 : tie.Need-word-requires-2 Inv-loop μ-loop
-word-requires-2 c κs = let s = c .before .before .before .before .before .before .before in let z = in-reach (s .args .m) (s .args .s .now) (c .before .before .before .blocks2 .ensures) (c .before .loop-test .taken) (s .pre .0) in (omega (arith, s .pre .5), z _ (omega (arith, s .pre .5)))
+word-requires-2 c κs = let s = c .before .before .before .before .before .before .before in let z = in-reach (s .args .m) (c .before .before .before .blocks2 .ensures) (c .before .loop-test .taken) (s .args .s .now) (s .pre .0) in (omega (arith, s .pre .5), z _ (omega (arith, s .pre .5)))
 
 both-requires : tie.Need-both-requires Inv-loop μ-loop
 both-requires c κs = search needs
 
 store-block-requires : tie.Need-store-block-requires Inv-loop μ-loop
-store-block-requires c κs = let s = c .before .before .before .before .before .before .before .before .before .before in let e = c .before .before .before .before .before .before .blocks2 .ensures in let l = c .before .before .before .before .loop-test .taken in (s .pre .1, rw (c .before .before .before .before .before .loop .inv .1 .got .long) (s .pre .2), s .pre .3, s .pre .5, in-blocks (s .args .m) (s .args .s .now) e l, ours-inside (s .args .m) (s .args .s .now) e l (OWNED + s .args .n) (WRITTEN + s .args .t) (c .before .before .before .word .result) (c .before .before .word2 .result) (c .before .before .before .word .ensures) (c .before .before .word2 .ensures) (s .pre .6) (omega (arith, s .pre .4)) (c .before .both .result) (c .before .both .ensures), rises-on (c .before .before .before .before .before .loop .inv .1) (s .pre .7))
+store-block-requires c κs = let s = c .before .before .before .before .before .before .before .before .before .before in let e = c .before .before .before .before .before .before .blocks2 .ensures in let l = c .before .before .before .before .loop-test .taken in (s .pre .1, rw (c .before .before .before .before .before .loop .inv .1 .got .long) (s .pre .2), s .pre .3, s .pre .5, in-blocks (s .args .m) e l, ours-inside (s .args .m) (s .args .s .now) e l (OWNED + s .args .n) (WRITTEN + s .args .t) (c .before .before .before .word .result) (c .before .before .word2 .result) (c .before .before .before .word .ensures) (c .before .before .word2 .ensures) (s .pre .6) (omega (arith, s .pre .4)) (c .before .both .result) (c .before .both .ensures), rises-on (c .before .before .before .before .before .loop .inv .1) (s .pre .7))
 
 add-j : tie.Need-add-j Inv-loop μ-loop
 add-j c = search needs

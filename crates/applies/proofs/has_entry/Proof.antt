@@ -3,7 +3,7 @@ use Prim.Native.Nat.{_-_, _+_, _≤_}
 use mathlib.Core.Path.{sym}
 use native.Mathlib.Omega.{arith}
 use Rattle.state.specs.View.{HELD, OWNED}
-use Rattle.leaving.proofs.Rows.{NoneBefore, none-first, none-here, none-at-all, some-here, in-reach}
+use Rattle.state.proofs.Rows.{NoneBefore, none-first, none-here, none-at-all, some-here, in-reach}
 use borrow.Author.Needs.{needs}
 use Rattle.applies.proofs.has_entry.Statement.{statement}
 use Rattle.applies.proofs.has_entry.Tie as tie
@@ -24,13 +24,13 @@ add-word : tie.Need-add-word Inv-loop μ-loop
 add-word c = search needs
 
 word-requires : tie.Need-word-requires Inv-loop μ-loop
-word-requires c κs = let s = c .before .before .before .before in let z = in-reach (s .args .m) (s .args .s .now) (c .before .before .blocks2 .ensures) (c .loop-test .taken) (s .pre .0) in (omega (arith, s .pre), z _ (omega (arith, s .pre)))
+word-requires c κs = let s = c .before .before .before .before in let z = in-reach (s .args .m) (c .before .before .blocks2 .ensures) (c .loop-test .taken) (s .args .s .now) (s .pre .0) in (omega (arith, s .pre), z _ (omega (arith, s .pre)))
 
 add-word-2 : tie.Need-add-word-2 Inv-loop μ-loop
 add-word-2 c = search needs
 
 word-requires-2 : tie.Need-word-requires-2 Inv-loop μ-loop
-word-requires-2 c κs = let s = c .before .before .before .before .before in let z = in-reach (s .args .m) (s .args .s .now) (c .before .before .before .blocks2 .ensures) (c .before .loop-test .taken) (s .pre .0) in (omega (arith, s .pre), z _ (omega (arith, s .pre)))
+word-requires-2 c κs = let s = c .before .before .before .before .before in let z = in-reach (s .args .m) (c .before .before .before .blocks2 .ensures) (c .before .loop-test .taken) (s .args .s .now) (s .pre .0) in (omega (arith, s .pre), z _ (omega (arith, s .pre)))
 
 meet-requires : tie.Need-meet-requires Inv-loop μ-loop
 meet-requires c κs = search needs

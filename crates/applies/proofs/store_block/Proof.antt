@@ -1,7 +1,7 @@
 -- A turn for each sheet of the block.
 use native.Mathlib.Omega.{arith}
-use Rattle.sets.proofs.Loops.{some-left}
-use Rattle.applies.proofs.Carry.{Storing, storing-first, storing-step, storing-end, at-digit, at-sheets, rises-here}
+use Rattle.sets.proofs.Loops.{some-left, at-digit}
+use Rattle.applies.proofs.Carry.{Storing, storing-first, storing-step, storing-end, at-sheets, rises-here}
 use borrow.Author.Needs.{needs}
 use Rattle.applies.proofs.store_block.Statement.{statement}
 use Rattle.applies.proofs.store_block.Tie as tie
@@ -22,10 +22,10 @@ lowest-requires : tie.Need-lowest-requires Inv-loop μ-loop
 lowest-requires c κs = search needs
 
 add-k : tie.Need-add-k Inv-loop μ-loop
-add-k c = let s = c .before .before .before .before .before in let a = at-digit (c .before .before .loop .inv) (c .before .loop-test .taken) (c .lowest .result) (c .lowest .ensures) (s .pre .5) in omega arith
+add-k c = let s = c .before .before .before .before .before in let a = at-digit (c .before .before .loop .inv .over) (c .before .loop-test .taken) (s .args .j) (s .pre .5) (c .lowest .ensures) in omega arith
 
 store-sheet-requires : tie.Need-store-sheet-requires Inv-loop μ-loop
-store-sheet-requires c κs = let s = c .before .before .before .before .before .before in let g = c .before .before .before .loop .inv in let d = c .before .before .loop-test .taken in (s .pre .0, at-sheets g d (c .before .lowest .result) (c .before .lowest .ensures) (s .pre .1), s .pre .2, s .pre .3, at-digit g d (c .before .lowest .result) (c .before .lowest .ensures) (s .pre .5) .1, rises-here g d (c .before .lowest .result) (c .before .lowest .ensures) (s .pre .6))
+store-sheet-requires c κs = let s = c .before .before .before .before .before .before in let g = c .before .before .before .loop .inv in let d = c .before .before .loop-test .taken in (s .pre .0, at-sheets g d (c .before .lowest .result) (c .before .lowest .ensures) (s .pre .1), s .pre .2, s .pre .3, at-digit (g .over) d (s .args .j) (s .pre .5) (c .before .lowest .ensures) .1, rises-here g d (c .before .lowest .result) (c .before .lowest .ensures) (s .pre .6))
 
 rest-requires : tie.Need-rest-requires Inv-loop μ-loop
 rest-requires c κs = some-left (c .before .before .before .before .before .loop-test .taken)

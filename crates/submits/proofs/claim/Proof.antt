@@ -1,7 +1,8 @@
 -- Block by block.
 use Prim.Native.Nat.{_-_, _≤_}
 use native.Mathlib.Omega.{arith}
-use Rattle.submits.proofs.Claims.{claimed-none, row-fits, claimed-on, claimed-all}
+use Rattle.state.proofs.Rows.{in-reach}
+use Rattle.submits.proofs.Claims.{claimed-none, claimed-on, claimed-all}
 use Rattle.submits.specs.Joining.{Claimed}
 use borrow.Author.Needs.{needs}
 use Rattle.submits.proofs.claim.Statement.{statement}
@@ -69,7 +70,7 @@ loop-less c = search needs
 
 loop-again : tie.Need-loop-again Inv-loop μ-loop
 loop-again c = let a = c .before .before .before .before .before .before .before .before .before .before .before .before .before .before .before .before .before .before .before .before .before .before in let l = c .before .before .before .before .before .before .before .before .before .before .before .before .before .before .before .before .before .before .before .loop in
-    (omega (arith, c .before .before .before .before .before .before .before .before .before .before .before .before .before .before .before .before .before .before .loop-test .taken), rw (c .before .before .set-word2 .ensures, c .before .before .before .before .before .before .set-word .ensures) (claimed-on (a .args .t) (l .j) (a .pre .2) (a .args .s .now) (l .s) (l .inv .1) (row-fits (a .args .m) (a .args .s .now) (l .s) (a .pre .0) (c .before .before .before .before .before .before .before .before .before .before .before .before .before .before .before .before .before .before .before .before .blocks2 .ensures) (c .before .before .before .before .before .before .before .before .before .before .before .before .before .before .before .before .before .before .loop-test .taken) (l .inv .1 .long) _ (omega (arith, a .pre .2))) (c .before .before .before .before .before .before .before .before .before .before .before .before .before .either .result) (c .before .before .before .before .before .before .before .before .either2 .result) (c .before .before .before .before .before .before .before .before .before .before .before .before .before .before .before .before .word .ensures) (c .before .before .before .before .before .before .before .before .before .before .before .before .before .before .word2 .ensures) (c .before .before .before .before .before .before .before .before .before .before .before .before .before .either .ensures) (c .before .before .before .before .before .before .before .before .before .before .before .word3 .ensures) (c .before .before .before .before .before .before .before .before .before .word4 .ensures) (c .before .before .before .before .before .before .before .before .either2 .ensures)))
+    (omega (arith, c .before .before .before .before .before .before .before .before .before .before .before .before .before .before .before .before .before .before .loop-test .taken), rw (c .before .before .set-word2 .ensures, c .before .before .before .before .before .before .set-word .ensures) (claimed-on (a .args .t) (l .j) (a .pre .2) (a .args .s .now) (l .s) (l .inv .1) (rw (l .inv .1 .long) (in-reach (a .args .m) (c .before .before .before .before .before .before .before .before .before .before .before .before .before .before .before .before .before .before .before .before .blocks2 .ensures) (c .before .before .before .before .before .before .before .before .before .before .before .before .before .before .before .before .before .before .loop-test .taken) (a .args .s .now) (a .pre .0) _ (omega (arith, a .pre .2)))) (c .before .before .before .before .before .before .before .before .before .before .before .before .before .either .result) (c .before .before .before .before .before .before .before .before .either2 .result) (c .before .before .before .before .before .before .before .before .before .before .before .before .before .before .before .before .word .ensures) (c .before .before .before .before .before .before .before .before .before .before .before .before .before .before .word2 .ensures) (c .before .before .before .before .before .before .before .before .before .before .before .before .before .either .ensures) (c .before .before .before .before .before .before .before .before .before .before .before .word3 .ensures) (c .before .before .before .before .before .before .before .before .before .word4 .ensures) (c .before .before .before .before .before .before .before .before .either2 .ensures)))
 
 same-length : tie.Need-same-length Inv-loop μ-loop
 same-length c = search needs

@@ -1,6 +1,6 @@
+use mathlib.Core.Bool.{and-comm}
 use native.Mathlib.Omega.{arith}
 use Rattle.state.proofs.Cells.{row-small, cell-in}
-use Rattle.takes.proofs.Entering.{swap}
 use borrow.Author.Needs.{needs}
 use Rattle.takes.proofs.behind.Statement.{statement}
 use Rattle.takes.proofs.behind.Tie as tie
@@ -30,7 +30,7 @@ shared-slice-read-result : tie.Need-shared-slice-read-result
 shared-slice-read-result c = search needs
 
 returns : tie.Need-returns
-returns c = rw (c .before .wide .ensures) (swap _ (c .before .before .before .before .before .args .copied))
+returns c = rw (c .before .wide .ensures) (and-comm _ (c .before .before .before .before .before .args .copied))
 
 pub behind-spec : {M : Type 1} → statement M
 behind-spec =

@@ -1,8 +1,9 @@
 use Prim.Native.Nat.{_-_, _≤_}
 use mathlib.Core.Logic.{⊎-elim}
 use native.Mathlib.Omega.{arith}
+use Rattle.state.proofs.Rows.{in-blocks}
 use Rattle.takes.specs.Take.{Rowing}
-use Rattle.takes.proofs.Rowing.{row-first, row-words, row-queues, row-inside, row-on, row-skip, row-end, in-blocks}
+use Rattle.takes.proofs.Rowing.{row-first, row-words, row-queues, row-inside, row-on, row-skip, row-end}
 use borrow.Author.Needs.{needs}
 use Rattle.takes.proofs.enter.Statement.{statement}
 use Rattle.takes.proofs.enter.Tie as tie

@@ -1,6 +1,6 @@
 use native.Mathlib.Omega.{arith}
-use Rattle.sets.proofs.Loops.{some-left}
-use Rattle.takes.proofs.Entering.{Going, going-first, going-step, going-end, at-digit, at-sheet}
+use Rattle.sets.proofs.Loops.{some-left, at-digit}
+use Rattle.takes.proofs.Entering.{Going, going-first, going-step, going-end, at-sheet}
 use borrow.Author.Needs.{needs}
 use Rattle.takes.proofs.enter_block.Statement.{statement}
 use Rattle.takes.proofs.enter_block.Tie as tie
@@ -33,23 +33,23 @@ mul-k : tie.Need-mul-k Inv-loop μ-loop
 mul-k c = omega (arith, c .before .before .before .before .before .before .before .before .before .pre)
 
 add-k : tie.Need-add-k Inv-loop μ-loop
-add-k c = omega (arith, at-digit (c .before .before .loop .inv) (c .before .loop-test .taken) (c .before .before .before .before .before .before .before .before .before .pre .7) (c .lowest .ensures), c .before .before .before .before .before .before .before .before .before .pre .4)
+add-k c = omega (arith, at-digit (c .before .before .loop .inv .over) (c .before .loop-test .taken) (c .before .before .before .before .before .before .before .before .before .args .j) (c .before .before .before .before .before .before .before .before .before .pre .7) (c .lowest .ensures), c .before .before .before .before .before .before .before .before .before .pre .4)
 
 has-requires : tie.Need-has-requires Inv-loop μ-loop
-has-requires c κs = at-digit (c .before .before .before .loop .inv) (c .before .before .loop-test .taken) (c .before .before .before .before .before .before .before .before .before .before .pre .7) (c .before .lowest .ensures) .0
+has-requires c κs = at-digit (c .before .before .before .loop .inv .over) (c .before .before .loop-test .taken) (c .before .before .before .before .before .before .before .before .before .before .args .j) (c .before .before .before .before .before .before .before .before .before .before .pre .7) (c .before .lowest .ensures) .0
 
 enter-sheet-requires : tie.Need-enter-sheet-requires Inv-loop μ-loop
-enter-sheet-requires c κs = let s = c .before .before .before .before .before .before .before .before .before .before .before in let a = at-digit (c .before .before .before .before .loop .inv) (c .before .before .before .loop-test .taken) (c .before .before .before .before .before .before .before .before .before .before .before .pre .7) (c .before .before .lowest .ensures) in
+enter-sheet-requires c κs = let s = c .before .before .before .before .before .before .before .before .before .before .before in let a = at-digit (c .before .before .before .before .loop .inv .over) (c .before .before .before .loop-test .taken) (c .before .before .before .before .before .before .before .before .before .before .before .args .j) (c .before .before .before .before .before .before .before .before .before .before .before .pre .7) (c .before .before .lowest .ensures) in
     (at-sheet (c .before .before .before .before .loop .inv) (c .before .before .before .loop-test .taken) (c .before .before .before .before .before .before .before .before .before .before .before .pre .7) (c .before .before .lowest .ensures) (s .pre .1), omega (arith, a .1, s .pre .4), s .pre .5)
 
 has-requires-2 : tie.Need-has-requires-2 Inv-loop μ-loop
-has-requires-2 c κs = at-digit (c .before .before .before .before .before .before .before .loop .inv) (c .before .before .before .before .before .before .loop-test .taken) (c .before .before .before .before .before .before .before .before .before .before .before .before .before .before .pre .7) (c .before .before .before .before .before .lowest .ensures) .0
+has-requires-2 c κs = at-digit (c .before .before .before .before .before .before .before .loop .inv .over) (c .before .before .before .before .before .before .loop-test .taken) (c .before .before .before .before .before .before .before .before .before .before .before .before .before .before .args .j) (c .before .before .before .before .before .before .before .before .before .before .before .before .before .before .pre .7) (c .before .before .before .before .before .lowest .ensures) .0
 
 behind-requires : tie.Need-behind-requires Inv-loop μ-loop
-behind-requires c κs = let s = c .before .before .before .before .before .before .before .before .before .before .before .before .before .before .before in (s .pre .2, s .pre .3, s .pre .4, s .pre .5, at-digit (c .before .before .before .before .before .before .before .before .loop .inv) (c .before .before .before .before .before .before .before .loop-test .taken) (c .before .before .before .before .before .before .before .before .before .before .before .before .before .before .before .pre .7) (c .before .before .before .before .before .before .lowest .ensures) .1)
+behind-requires c κs = let s = c .before .before .before .before .before .before .before .before .before .before .before .before .before .before .before in (s .pre .2, s .pre .3, s .pre .4, s .pre .5, at-digit (c .before .before .before .before .before .before .before .before .loop .inv .over) (c .before .before .before .before .before .before .before .loop-test .taken) (c .before .before .before .before .before .before .before .before .before .before .before .before .before .before .before .args .j) (c .before .before .before .before .before .before .before .before .before .before .before .before .before .before .before .pre .7) (c .before .before .before .before .before .before .lowest .ensures) .1)
 
 with-if-requires : tie.Need-with-if-requires Inv-loop μ-loop
-with-if-requires c κs = at-digit (c .before .before .before .before .before .before .before .before .before .loop .inv) (c .before .before .before .before .before .before .before .before .loop-test .taken) (c .before .before .before .before .before .before .before .before .before .before .before .before .before .before .before .before .pre .7) (c .before .before .before .before .before .before .before .lowest .ensures) .0
+with-if-requires c κs = at-digit (c .before .before .before .before .before .before .before .before .before .loop .inv .over) (c .before .before .before .before .before .before .before .before .loop-test .taken) (c .before .before .before .before .before .before .before .before .before .before .before .before .before .before .before .before .args .j) (c .before .before .before .before .before .before .before .before .before .before .before .before .before .before .before .before .pre .7) (c .before .before .before .before .before .before .before .lowest .ensures) .0
 
 rest-requires : tie.Need-rest-requires Inv-loop μ-loop
 rest-requires c κs = some-left (c .before .before .before .before .before .before .before .before .before .loop-test .taken)

@@ -1,8 +1,8 @@
 -- The node count is stored, and each sheet joins its owner's set.
-use Prim.Native.Nat.{_-_, _≤_, _<_}
+use Prim.Native.Nat.{_-_, _≤_}
 use mathlib.Core.Path.{_≡_, refl}
 use native.Mathlib.Omega.{arith}
-use lib.ListN.{length, getD}
+use lib.ListN.{length}
 use Rattle.state.specs.Slices.{slices}
 use Rattle.state.proofs.Fresh.{Owned, owned-none, owned-on, starts, node-fits, owner-fits}
 use borrow.Author.Needs.{needs}

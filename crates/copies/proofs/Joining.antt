@@ -1,7 +1,7 @@
--- A sheet joins a row's set, and what other rows the state goes by beside a save's marks.
+-- A sheet joins a row's set.
 use Prim.Native.Nat.{ℕ, _+_, _*_, _/_, _%_, _≤_, _<_}
-use mathlib.Core.Path.{_≡_, refl, sym, ap, _∙_, fun-ext}
-use mathlib.Core.Bool.{Bool, true, _||_, or-false, or-true}
+use mathlib.Core.Path.{_≡_, refl, sym, ap, _∙_}
+use mathlib.Core.Bool.{true, _||_, or-false, or-true}
 use mathlib.Core.Logic.{_≢_}
 use mathlib.Core.List.{List}
 use native.Mathlib.Omega.{arith}
@@ -11,13 +11,11 @@ use borrow.Author.Tests.{eq-eqb, ne-eqb}
 use Rattle.rules.specs.Table.{upd2}
 use Rattle.rules.proofs.Table.{same?, below?}
 use Rattle.sets.specs.Bit.{bit, word, in-row, stride}
-use Rattle.state.specs.View.{member, in-set, owner-in, header-of, claim-of, claim-in, COPIED, WRITTEN, CLAIM, CLAIM-X, HELD, OWNED, rows}
+use Rattle.state.specs.View.{member, in-set, rows}
 use Rattle.state.specs.Stored.{Stored}
-use Rattle.state.specs.Fit.{Ends, Kept}
-use Rattle.state.proofs.Parts.{member-in, member-past, set-in, set-past, set-same, owner-same}
+use Rattle.state.specs.Fit.{Ends}
+use Rattle.state.proofs.Parts.{member-in, member-past, set-in, set-past, set-same}
 use Rattle.state.proofs.Tables.{upd2-by}
-
--- ---- One sheet more in a row
 
 -- sheet k is in the set of row i now, and all else is as it was
 pub record Joined (m i k : ℕ) (s s′ : List ℕ) : Type 0 where
@@ -66,45 +64,3 @@ module _ {m k : ℕ} {s s′ : List ℕ} (g t : ℕ) (h : t < 32) (j : Joined m 
 
   pub set-beside : (g′ : ℕ) → g′ + 32 ≤ rows → ((u : ℕ) → u < 32 → g′ + u ≢ g + t) → in-set m g′ s′ ≡ in-set m g′ s
   set-beside g′ w d = set-same m g′ s s′ (λ u y b. j .rest (g′ + u) y (omega arith) (λ p q. d u b p))
-
--- ---- Rows but a save's copies
-
--- the rows of claims, entries and owners are as they were
-pub record Beside (m : ℕ) (s s′ : List ℕ) : Type 0 where
-  pub same : (r y : ℕ) → CLAIM ≤ r → r < rows → member m s′ r y ≡ member m s r y
-
-module _ {m : ℕ} {s s′ : List ℕ} (e : Beside m s s′) where
-  beside-set : (g : ℕ) → CLAIM ≤ g → g + 32 ≤ rows → in-set m g s′ ≡ in-set m g s
-  beside-set g a b = set-same m g s s′ (λ u y h. e .same (g + u) y (omega arith) (omega arith))
-
-  beside-owner : owner-in m s′ 8 ≡ owner-in m s 8
-  beside-owner = fun-ext (λ y. owner-same m s s′ 8 y (λ i h. e .same (OWNED + i) y (omega arith) (omega arith)))
-
-  pub beside-header : (b : List ℕ) → header-of m b s′ ≡ header-of m b s
-  beside-header b = λ i. record { nodes = getD b 96 0; sheets = m; owner = beside-owner i }
-
-  pub beside-claim : claim-in m s′ ≡ claim-in m s
-  beside-claim = λ i t k. claim-of (beside-set CLAIM (omega arith) (omega arith) i t k) (beside-set CLAIM-X (omega arith) (omega arith) i t k)
-
-  at-set : (g t k : ℕ) → CLAIM ≤ g → g + 32 ≤ rows → in-set m g s′ t k ≡ in-set m g s t k
-  at-set g t k a b = ap (λ (f : ℕ → ℕ → Bool). f t k) (beside-set g a b)
-
-  -- what is kept stays so
-  pub kept-beside : {b q : List ℕ} → length s′ ≡ length s → ((t k : ℕ) → in-set m WRITTEN s′ t k ≡ true → in-set m COPIED s′ t k ≡ true) → Ends m s′ → Kept m b s q → Kept m b s′ q
-  kept-beside {b} {q} len w ends k = record {
-    sized = record { bytes = k .sized .bytes; sets = rw len (k .sized .sets); queues = k .sized .queues; fits = k .sized .fits };
-    sets = record {
-      written = w;
-      claimed = λ t y z. at-set CLAIM t y (omega arith) (omega arith) ∙ k .sets .claimed t y (sym (at-set CLAIM-X t y (omega arith) (omega arith)) ∙ z);
-      owners = λ n y a l. e .same (OWNED + n) y (omega arith) (omega arith) ∙ k .sets .owners n y a l ∙ ap (λ (f : ℕ → ℕ). eqb (f y) n) (sym beside-owner);
-      ends = ends;
-    };
-    queues = record {
-      held = λ u y a l. at-set HELD u y (omega arith) (omega arith) ∙ k .queues .held u y a l;
-      exclusive = λ u y a l. k .queues .exclusive u y a l ∙ rw (at-set CLAIM-X u y (omega arith) (omega arith));
-      saves = k .queues .saves;
-      saves-x = k .queues .saves-x;
-      listed = k .queues .listed;
-    };
-    places = k .places;
-  }
