@@ -32,8 +32,9 @@ use Rattle.state.proofs.Steps.{refused, accepted, same-state}
 use Rattle.state.proofs.Waiting.{mem-entries}
 use Rattle.leaving.specs.Left.{Left}
 use Rattle.leaving.proofs.Stands.{left, row-left, kept-left}
-use Rattle.applies.specs.Carry.{sheet-in, Received, Counts}
-use Rattle.applies.proofs.Carry.{received-none, received-same}
+use Rattle.storing.specs.Carry.{sheet-in, Received}
+use Rattle.storing.proofs.Carry.{received-none, received-same}
+use Rattle.applies.specs.Counts.{Counts}
 
 -- a refused command does not count among the accepted
 pub not-accepted : (r : ℕ) → Refused r ≡ Accepted → ⊥

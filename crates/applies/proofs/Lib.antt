@@ -1,2 +1,1 @@
 pub mod Applying
-pub mod Carry

@@ -28,10 +28,10 @@ use Rattle.state.proofs.Known.{kept-byte}
 use Rattle.state.proofs.OutOfPhase.{submitted-tests}
 use Rattle.state.proofs.Parts.{part-in}
 use Rattle.state.proofs.Steps.{refused, accepted, same-state}
-use Rattle.decides.specs.Granting.{Fits, block-granted}
+use Rattle.granting.specs.Granting.{Fits, block-granted}
 use Rattle.decides.specs.Settling.{Settles, Settled}
 use Rattle.decides.proofs.Copies.{beside, marks-cleared, kept-cleared}
-use Rattle.decides.proofs.Granting.{taken-all, granted-all, tests-code}
+use Rattle.granting.proofs.Granting.{taken-all, granted-all, tests-code}
 
 -- two tests with one number
 both : (a b : Bool) (n : ℕ) → a && b ≡ true → cond a (cond b pass (refuse n)) (refuse n) ≡ pass

@@ -1,2 +1,1 @@
-pub mod Granting
 pub mod Settling

@@ -12,7 +12,7 @@ use Rattle.state.specs.View.{in-set, owner-in, claim-in, claim-of, mark-of, COP
 use Rattle.state.specs.Fit.{Sets}
 use Rattle.state.proofs.Parts.{member-same, in-block}
 use Rattle.state.proofs.Rows.{set-row, set-none, set-by, sets-by, owners-by}
-use Rattle.submits.specs.Joining.{Claimed}
+use Rattle.joining.specs.Joining.{Claimed}
 
 -- claim and mark as one claim
 joined-of : (c x p w : Bool) → claim-of (c || p) (x || w) ≡ join-claim (claim-of c x) (mark-of p w)

@@ -26,7 +26,7 @@ use Rattle.state.proofs.Rows.{set-row}
 use Rattle.state.proofs.Steps.{same-state}
 use Rattle.leaving.specs.Left.{Left}
 use Rattle.leaving.proofs.Stands.{left}
-use Rattle.submits.specs.Joining.{Freed}
+use Rattle.joining.specs.Joining.{Freed}
 use Rattle.submits.proofs.Joins.{Free}
 
 -- ---- In the first run

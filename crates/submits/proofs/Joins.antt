@@ -26,8 +26,8 @@ use Rattle.state.proofs.Bytes.{phase-in, failed-in, Bytes, bytes-same, phase-st
 use Rattle.state.proofs.Known.{order-length}
 use Rattle.state.proofs.Parts.{part-in, part-past, part-same, part-apart, queue-past, queue-same, queue-x-same}
 use Rattle.state.proofs.Steps.{same-state}
-use Rattle.submits.specs.Joining.{Placing, waiting, Joining}
-use Rattle.submits.proofs.Seats.{seated-long}
+use Rattle.joining.specs.Joining.{Placing, waiting, Joining}
+use Rattle.joining.proofs.Seats.{seated-long}
 use Rattle.submits.proofs.Claiming.{copied-same, written-same, held-same, owner-same, claim-x-other, claims-after, sets-after}
 
 -- what a joining starts from: save t has no entry and is not placed, the others are as ever

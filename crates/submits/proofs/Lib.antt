@@ -1,6 +1,4 @@
 pub mod Wide
-pub mod Claims
-pub mod Seats
 pub mod Claiming
 pub mod Joins
 pub mod Freeing

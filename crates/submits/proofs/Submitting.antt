@@ -27,7 +27,7 @@ use Rattle.state.proofs.Steps.{refused, accepted}
 use Rattle.leaving.specs.Left.{Left}
 use Rattle.leaving.proofs.Stands.{left, kept-left}
 use Rattle.submits.specs.Wide.{wide-in}
-use Rattle.submits.specs.Joining.{Freed, Joining}
+use Rattle.joining.specs.Joining.{Freed, Joining}
 use Rattle.submits.proofs.Joins.{Free, joins, kept-after}
 use Rattle.submits.proofs.Freeing.{finds-room, first-free, freed-free, freed-view, no-entry-left, left-view}
 

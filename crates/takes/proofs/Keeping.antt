@@ -15,7 +15,7 @@ use Rattle.state.specs.Fit.{Ends, Last, Kept}
 use Rattle.state.proofs.Keeping.{Ahead, placed-same, last-on, places-same, Entries, kept-entries}
 use Rattle.state.proofs.Parts.{queue-in, queue-x-in, queue-same, queue-x-same, in-block}
 use Rattle.state.proofs.Rows.{set-row}
-use Rattle.takes.specs.Take.{Entered, Held, ours, ours-x}
+use Rattle.entering.specs.Enter.{Entered, Held, ours, ours-x}
 
 -- ---- A node's count
 

@@ -1,5 +1,3 @@
-pub mod Entering
-pub mod Rowing
 pub mod Keeping
 pub mod Ruling
 pub mod Taking

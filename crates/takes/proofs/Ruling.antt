@@ -19,7 +19,8 @@ use Rattle.state.proofs.Known.{x-queued}
 use Rattle.state.proofs.Parts.{part-in, queue-in, queue-x-in}
 use Rattle.queues.specs.Front.{Ranked, fronted}
 use Rattle.queues.proofs.Fronts.{fronted-same, ranked-within}
-use Rattle.takes.specs.Take.{Entered, ours, ours-x, Rowing, RuleAt, Taken}
+use Rattle.entering.specs.Enter.{Entered, ours, ours-x, Rowing}
+use Rattle.takes.specs.Take.{RuleAt, Taken}
 use Rattle.takes.proofs.Keeping.{kept-entered}
 
 -- ---- The words that the code has

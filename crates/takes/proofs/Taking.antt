@@ -36,7 +36,8 @@ use Rattle.state.proofs.Rows.{set-row, set-none}
 use Rattle.state.proofs.Steps.{accepted, same-state}
 use Rattle.state.proofs.Waiting.{one-more, holds-any}
 use Rattle.queues.proofs.Fronts.{fronted-same, front-code}
-use Rattle.takes.specs.Take.{Entered, ours, ours-x, fails, ahead, ahead-x, RuleAt, Finds, Taken}
+use Rattle.entering.specs.Enter.{Entered, ours, ours-x, fails}
+use Rattle.takes.specs.Take.{ahead, ahead-x, RuleAt, Finds, Taken}
 use Rattle.takes.proofs.Keeping.{apart, queue-apart, kept-count, queued-code, entered, kept-entered}
 
 -- the bytes after: the failed mark alone
