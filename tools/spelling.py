@@ -23,6 +23,12 @@ SMALL = {"W": "w", "W-36": "w_36", "W-38": "w_38", "W-43": "w_43", "W-end": "w_e
 FUNCTION = ("Proof.antt", "Answers.antt", "Invariants.antt")
 
 
+def in_function(path):
+    """A function's proof: proofs/F/Answers.antt, and not a lemma file or definitions of that name."""
+    above = os.path.basename(os.path.dirname(path))
+    return os.path.basename(path) in FUNCTION and above not in ("specs", "proofs")
+
+
 def bare(text):
     """Without comments and texts."""
     return re.sub(r'"[^"]*"', '""', re.sub(r"--.*", "", text))
@@ -44,7 +50,7 @@ def own_names(root):
             text = bare(f.read())
         for use in re.finditer(r"^use Rattle\.(?!std\.)[\w.+]+ as (" + NAME + r")", text, re.M):
             aliases.add(use.group(1))
-        if os.path.basename(path) in FUNCTION:
+        if in_function(path):
             continue
         for line in DECLARED.finditer(text):
             names = line.group(1).split()
@@ -86,7 +92,7 @@ def turn_line(line, turned, after_dot, comment):
 def main(root):
     turned, fields, aliases, edits = own_names(root)
 
-    def in_function(code, dot, name):
+    def known(code, dot, name):
         before = re.search(r"([\w'#₀-₉-]+)$", code[:dot])
         return name in fields or bool(before and before.group(1) in aliases)
 
@@ -95,7 +101,7 @@ def main(root):
         with open(path, encoding="utf-8", errors="surrogateescape") as f:
             text = f.read()
         if path.endswith(".antt"):
-            rule = in_function if os.path.basename(path) in FUNCTION else (lambda c, i, n: True)
+            rule = known if in_function(path) else (lambda c, i, n: True)
             new = "\n".join(turn_line(l, turned, rule, "--") for l in text.split("\n"))
         elif path.endswith(".rt"):
             # a clause or an import: no Rust word has a dash, so W alone needs care, and no clause names it

@@ -1,60 +1,62 @@
 // Reads a session from standard input and prints the answer of a call on it, then the part shown in hexadecimal.
+#![tactic(auto)]
+
 ghost use Rattle.std.specs.Prelude.{◌<◌};
 
-use libc::{STDIN_FILENO, STDOUT_FILENO};
 use limits::MAX_SESSION;
 use session::Reply;
 use state::{Cause, Rule, Verdict};
+use std::io;
 
-fn say(text: &[u8]) {
-    io::write_all(STDOUT_FILENO, text);
+fn say(rt: &impl Print, text: &[u8]) -> io::Result<()> {
+    rt.write_all(text)
 }
 
-fn number(n: u64) {
-    io::print_decimal(STDOUT_FILENO, n);
+fn number(rt: &impl Print, n: u64) -> io::Result<()> {
+    rt.print(n)
 }
 
 // " invalid K granted", " invalid K waiting" or " invalid K behind".
-fn say_cause(cause: Cause) {
-    say(b" invalid ");
-    number(cause.sheet as u64);
+fn say_cause(rt: &impl Print, cause: Cause) -> io::Result<()> {
+    say(rt, b" invalid ")?;
+    number(rt, cause.sheet as u64)?;
     let rule = cause.rule;
     match rule {
-        Rule::XGranted => say(b" granted"),
-        Rule::XWaiting => say(b" waiting"),
-        Rule::CounterBehind => say(b" behind"),
+        Rule::XGranted => say(rt, b" granted"),
+        Rule::XWaiting => say(rt, b" waiting"),
+        Rule::CounterBehind => say(rt, b" behind"),
     }
 }
 
 // "take T valid", or "take T" with the cause.
-fn say_taken(t: u8, v: Verdict) {
-    say(b"take ");
-    number(t as u64);
+fn say_taken(rt: &impl Print, t: u8, v: Verdict) -> io::Result<()> {
+    say(rt, b"take ")?;
+    number(rt, t as u64)?;
     match v {
-        Verdict::Valid => say(b" valid"),
-        Verdict::Invalid(cause) => say_cause(cause),
+        Verdict::Valid => say(rt, b" valid"),
+        Verdict::Invalid(cause) => say_cause(rt, cause),
     }
 }
 
-fn say_reply(r: Reply) {
+fn say_reply(rt: &impl Print, r: Reply) -> io::Result<()> {
     match r {
-        Reply::NoCommand => say(b"none"),
-        Reply::Accepted => say(b"accepted"),
+        Reply::NoCommand => say(rt, b"none")?,
+        Reply::Accepted => say(rt, b"accepted")?,
         Reply::Content(v) => {
-            say(b"content ");
-            number(v as u64);
+            say(rt, b"content ")?;
+            number(rt, v as u64)?;
         }
-        Reply::Took(t, v) => say_taken(t, v),
-        Reply::Commits => say(b"decide committed"),
-        Reply::SecondRun => say(b"decide second run"),
+        Reply::Took(t, v) => say_taken(rt, t, v)?,
+        Reply::Commits => say(rt, b"decide committed")?,
+        Reply::SecondRun => say(rt, b"decide second run")?,
         Reply::Refused(p, n) => {
-            say(b"refused ");
-            number(p as u64);
-            say(b" ");
-            number(n as u64);
+            say(rt, b"refused ")?;
+            number(rt, p as u64)?;
+            say(rt, b" ")?;
+            number(rt, n as u64)?;
         }
     }
-    say(b"\n");
+    say(rt, b"\n")
 }
 
 // A hexadecimal figure.
@@ -68,28 +70,28 @@ fn figure(n: u8) -> u8
 }
 
 // A byte as two figures.
-fn say_byte(b: u8) {
+fn say_byte(rt: &impl Print, b: u8) -> io::Result<()> {
     let pair = [figure(b / 16), figure(b % 16)];
-    say(&pair);
+    say(rt, &pair)
 }
 
 // The bytes in hexadecimal, one blank between.
-fn say_bytes(bytes: &[u8]) {
+fn say_bytes(rt: &impl Print, bytes: &[u8]) -> io::Result<()> {
     let mut i: usize = 0;
     while i < bytes.len() {
         if i != 0 {
-            say(b" ");
+            say(rt, b" ")?;
         }
-        say_byte(bytes[i]);
+        say_byte(rt, bytes[i])?;
         i += 1;
     }
-    say(b"\n");
+    say(rt, b"\n")
 }
 
-fn main() {
+fn main(rt: HostRuntime) -> io::Result<()> {
     // One byte more than a session may have: a longer input is then refused for what it is.
     let mut space = [0u8; MAX_SESSION + 1];
-    let n = io::read_full(STDIN_FILENO, &mut space);
-    say_reply(cusphewa::last_answer(&space[..n]));
-    say_bytes(cusphewa::shown(&space[..n]));
+    let n = intake::read_full(&mut rt.stdin(), &mut space)?;
+    say_reply(&rt, cusphewa::last_answer(&space[..n]))?;
+    say_bytes(&rt, cusphewa::shown(&space[..n]))
 }

@@ -13,7 +13,7 @@ use Rattle.rules.proofs.Table.{bool}
 use Rattle.rules.specs.Sizes.{max_commands}
 use Rattle.rules.specs.Report.{Filled}
 use Rattle.text.proofs.Writing.{wrote_as, wrote_front, wrote_end}
-use Rattle.rules.specs.Answers.{session-replies}
+use Rattle.rules.specs.Answers.{session_replies}
 use Rattle.wire.specs.declared.Opened.TheVariants.{Header, Bad}
 use Rattle.wire.specs.Meaning.{opened}
 use Rattle.wire.proofs.Opening.{opening, unopened}
@@ -25,11 +25,11 @@ use Rattle.answers.specs.Telling.{Listed}
 
 module _ {b room after : List ℕ} {m n : ℕ} (g : Listed b m room n after) where
   -- the room has place for all
-  pub all_told : n ≤ length room → record { outcome = lists.wrote n; room = after } ≡ fitted (map answer_code (session-replies b)) room
+  pub all_told : n ≤ length room → record { outcome = lists.wrote n; room = after } ≡ fitted (map answer_code (session_replies b)) room
   all_told h =
       let q = length_is g.listed.wrote in
-      let f = wrote_front (wrote_as refl (omega arith) g.listed.wrote) (let z : length (map answer_code (session-replies b)) ≤ length room = omega (arith, q, h) in z) in
-      rw (le-ltb (length room) (length (map answer_code (session-replies b))) (omega (arith, q, h))) (ap (λ (r : Filled). record { outcome = lists.wrote r.size; room = r.buffer }) f)
+      let f = wrote_front (wrote_as refl (omega arith) g.listed.wrote) (let z : length (map answer_code (session_replies b)) ≤ length room = omega (arith, q, h) in z) in
+      rw (le-ltb (length room) (length (map answer_code (session_replies b))) (omega (arith, q, h))) (ap (λ (r : Filled). record { outcome = lists.wrote r.size; room = r.buffer }) f)
 
   pub few_told : n ≤ max_commands
   few_told = wrote_end g.listed.wrote
@@ -40,9 +40,9 @@ same_many f g = length_is g.listed.wrote ∙ sym (length_is f.listed.wrote)
 
 -- ---- A session that opens, and one that earns refusal 1
 
-pub answers_of : (b room : List ℕ) (nodes sheets : ℕ) → Header nodes sheets ≡ opened b → fitted (map answer_code (session-replies b)) room ≡ answers_call b room
+pub answers_of : (b room : List ℕ) (nodes sheets : ℕ) → Header nodes sheets ≡ opened b → fitted (map answer_code (session_replies b)) room ≡ answers_call b room
 unfolding answers_call
-answers_of b room n m e = let o = opening b n m e in rw (o.opened_well, length-map (session-replies b) answer_code)
+answers_of b room n m e = let o = opening b n m e in rw (o.opened_well, length-map (session_replies b) answer_code)
 
 pub no_answers : (b : List ℕ) → Bad ≡ opened b → (room : List ℕ) {code : ℕ} → code ≡ coded 7 0 1
     → (record { code = code; room = room } ≡ told_call (answers_call b room)) × (outcome_in code ≡ (answers_call b room).outcome) × AnswersAgain b code room

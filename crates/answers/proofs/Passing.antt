@@ -7,12 +7,12 @@ use mathlib.Core.Option.{none, some}
 use native.Mathlib.Omega.{arith}
 use lib.ListN.{length, take, drop, length-drop, length-map}
 use Rattle.rules.specs.Sizes.{max_session, max_commands}
-use Rattle.rules.specs.Bytes.{opens, Command, whole, ended, stopped, Step as Stepping, Reading, more, read_from}
+use Rattle.rules.specs.Bytes.{opens, whole, ended, stopped, Step as Stepping, Reading, more, read_from}
 use Rattle.rules.specs.State.{State}
 use Rattle.rules.specs.Steps.{check, pass, refuse, effect, answer}
 use Rattle.rules.specs.Calls.{answers, refusal}
 use Rattle.rules.specs.Calls as calls
-use Rattle.rules.specs.Answers.{replies, session-replies}
+use Rattle.rules.specs.Answers.{replies, session_replies}
 use Rattle.text.specs.Wrote.{Wrote}
 use Rattle.text.proofs.Writing.{wrote_none, wrote_next}
 use Rattle.clipped.proofs.Laws.{wrote_within}
@@ -60,7 +60,7 @@ told_next {us = us} {vs = vs} e h f g = record {
 -- ---- The start
 
 pub starts : {b : List ℕ} {m : ℕ} {x : Slices} → Begins b m x → {tally : Tally} → figures tally ≡ no_tally → (l : List ℕ) → Telling b m x tally (2 + m) l l 0
-unfolding session-replies
+unfolding session_replies
 starts {b} {m} g {tally} f l = record {
   last = reply.NoCommand;
   looping = goal.starts g f;

@@ -4,7 +4,7 @@ use Rattle.rules.specs.Sizes.{max_commands}
 use Rattle.rules.specs.Bytes.{read_from}
 use Rattle.rules.specs.State.{State}
 use Rattle.rules.specs.Calls as calls
-use Rattle.rules.specs.Answers.{replies, session-replies}
+use Rattle.rules.specs.Answers.{replies, session_replies}
 use Rattle.text.specs.Wrote.{Wrote}
 use Rattle.state.specs.Slices.{Slices}
 use Rattle.state.specs.View.{shown}
@@ -23,7 +23,7 @@ pub record Numbered (before : List ℕ) (at : ℕ) (told : List calls.Reply) (ro
 -- all answers of session b, of m sheets, as far as the room goes: n of them, each of two bytes behind the header at least, but for the last, which may be a
 -- refusal of one
 pub record Listed (b : List ℕ) (m : ℕ) (before : List ℕ) (n : ℕ) (after : List ℕ) : Type 0 where
-  pub listed : Numbered before 0 (session-replies b) max_commands n after
+  pub listed : Numbered before 0 (session_replies b) max_commands n after
   pub few : 2 * n + m + 1 ≤ length b
 
 -- the answers from offset p on, in state s
@@ -35,5 +35,5 @@ pub record Telling (b : List ℕ) (m : ℕ) (x : Slices) (tally : Tally) (p : �
   pub looping : Looping b m x tally last p
   pub done : List calls.Reply
   pub listed : Numbered before 0 done count count after
-  pub same : done ++ rest b (shown m x (figures tally)) p ≡ session-replies b
+  pub same : done ++ rest b (shown m x (figures tally)) p ≡ session_replies b
   pub few : 2 * count + (2 + m) ≤ p  -- a command has two bytes at least

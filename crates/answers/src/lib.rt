@@ -1,7 +1,9 @@
 // Every command's answer, as numbers for the host, in one pass over the session.
+#![tactic(auto)]
+
 ghost use Rattle.std.specs.Prelude.{◌≡◌, [], ◌∷◌, map, ◌<◌};
 ghost use Rattle.rules.specs.Sizes.{max_commands};
-ghost use Rattle.rules.specs.Answers.{EachPrefix, FewAnswers, session-replies};
+ghost use Rattle.rules.specs.Answers.{EachPrefix, FewAnswers, session_replies};
 ghost use Rattle.wire.specs.Meaning.{opened};
 ghost use Rattle.wire.specs.declared.Opened.TheVariants.{Header};
 ghost use Rattle.state.specs.Slices.{slices};
@@ -103,9 +105,9 @@ fn pass(session: &[u8], room: &mut [u64], nodes: u8, sheets: u16) -> usize
 // first, so that nothing is written where they do not fit.
 fn tell_all(session: &[u8], room: &mut [u64], nodes: u8, sheets: u16) -> Placed
     requires { Header nodes sheets ≡ opened session.now }
-    ensures room_after { record { outcome = outcome_of result; room = room.new } ≡ fitted (map answer_code (session-replies session.now)) room.old }
+    ensures room_after { record { outcome = outcome_of result; room = room.new } ≡ fitted (map answer_code (session_replies session.now)) room.old }
     ensures small { Small result }
-    ensures again { map answer_of (map answer_code (session-replies session.now)) ≡ session-replies session.now }
+    ensures again { map answer_of (map answer_code (session_replies session.now)) ≡ session_replies session.now }
 {
     let most = (session.len() - sheets as usize - 1) / 2;
     if most <= room.len() {
@@ -122,8 +124,7 @@ fn tell_all(session: &[u8], room: &mut [u64], nodes: u8, sheets: u16) -> Placed
 }
 
 // Lists every command's answer, as cusphewa_answer's numbers, up to the first refusal: how many there are, or a refusal, which writes nothing.
-#[unsafe(no_mangle)]
-pub extern "C" fn cusphewa_answers(session: &[u8], list: &mut [u64]) -> u64
+pub fn cusphewa_answers(session: &[u8], list: &mut [u64]) -> u64
     ensures list_after { record { code = result; room = list.new } ≡ told_call (answers_call session.now list.old) }
     ensures decoded { outcome_in result ≡ (answers_call session.now list.old).outcome }
     ensures answers_again { AnswersAgain session.now result list.new }

@@ -1,4 +1,6 @@
 // APPLY: a node carries out a save's outcome.
+#![tactic(auto)]
+
 ghost use Rattle.std.specs.Prelude.{◌+◌, ◌*◌, ◌≤◌, ◌<◌, ◌≡◌, ◌&&◌, length};
 ghost use Rattle.rules.specs.Bytes.{Apply};
 ghost use Rattle.rules.specs.Table.{any};

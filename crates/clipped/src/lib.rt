@@ -1,5 +1,7 @@
 // Text into a lent room that may be too short: what does not fit is not written, and the place behind the text is answered all the same. So a
 // caller learns how long a text is by lending no room, and then lends what it has.
+#![tactic(auto)]
+
 ghost use Rattle.std.specs.Prelude.{[], ◌∷◌, ◌+◌, ◌<◌, ◌≤◌, length, take};
 ghost use Rattle.rules.specs.Report as rules;
 ghost use Rattle.rules.specs.Showing.{lettered, opening};

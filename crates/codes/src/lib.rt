@@ -1,4 +1,6 @@
 // Answers as numbers, for the host: a host in C can't take an enum.
+#![tactic(auto)]
+
 ghost use Rattle.std.specs.Prelude.{◌≡◌, ◌<◌};
 ghost use Rattle.rules.specs.Steps.{took};
 ghost use Rattle.rules.specs.Calls.{answers};
@@ -63,7 +65,7 @@ pub fn reply_code(r: Reply) -> u64
 }
 
 // How many bytes or numbers were written into a room, or how many it must hold, where it is too short.
-#[derive(Drop)]
+#[derive(Clone, Copy)]
 pub enum Placed {
     Whole(usize),
     TooShort(usize),

@@ -1,4 +1,6 @@
 // The commands on a save's own copies: READ and WRITE. Each does what its rule says.
+#![tactic(auto)]
+
 ghost use Rattle.std.specs.Prelude.{◌+◌, ◌*◌, ◌≤◌, ◌<◌, ◌≡◌, true, not, ◌&&◌, length, eqb};
 ghost use Rattle.rules.specs.Bytes.{Read, Write};
 ghost use Rattle.queues.specs.Front.{Ranked, fronted};

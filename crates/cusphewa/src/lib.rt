@@ -1,4 +1,6 @@
 // The calls on a session: its answer, the part that is shown; writing a session and reading it back. `reports`, `states` and `answers` have one call each.
+#![tactic(auto)]
+
 ghost use Rattle.std.specs.Prelude.{◌≡◌, min, length};
 ghost use Rattle.rules.specs.Causes.{WhyFailed};
 ghost use Rattle.rules.specs.Ordered.{AlwaysOrdered};
@@ -85,8 +87,7 @@ pub fn shown(session: &[u8]) -> &[u8]
 // ---- Numbers for the host
 
 // The answer of a call on a session, for the host.
-#[unsafe(no_mangle)]
-pub extern "C" fn cusphewa_answer(session: &[u8]) -> u64
+pub fn cusphewa_answer(session: &[u8]) -> u64
     ensures value { result ≡ answer_code (calls.reply session.now) }
     ensures decoded { answer_of result ≡ calls.reply session.now }
     ensures why_failed { WhyFailed }
@@ -96,8 +97,7 @@ pub extern "C" fn cusphewa_answer(session: &[u8]) -> u64
 }
 
 // The part shown, for the host: its offset and its size in one.
-#[unsafe(no_mangle)]
-pub extern "C" fn cusphewa_shown(session: &[u8]) -> u64
+pub fn cusphewa_shown(session: &[u8]) -> u64
     ensures value { result ≡ part_code (calls.part session.now) }
     ensures decoded { part_in result ≡ calls.part session.now }
 {
@@ -124,8 +124,7 @@ fn place(p: usize) -> u64
 }
 
 // Writes the session of a header and a list of steps in words, four to a step: how many bytes it has, or a refusal, which writes nothing.
-#[unsafe(no_mangle)]
-pub extern "C" fn cusphewa_write(
+pub fn cusphewa_write(
     nodes: usize,
     sheets: usize,
     owners: &[u8],
@@ -151,8 +150,7 @@ pub extern "C" fn cusphewa_write(
 }
 
 // Reads a session's header and all its steps, in words: how many there are, or a refusal, which writes nothing.
-#[unsafe(no_mangle)]
-pub extern "C" fn cusphewa_read(session: &[u8], steps: &mut [u32]) -> u64
+pub fn cusphewa_read(session: &[u8], steps: &mut [u32]) -> u64
     ensures steps_after { record { code = result; room = steps.new } ≡ told_call (lists.read_call session.now steps.old) }
     ensures decoded { outcome_in result ≡ as_told (lists.read_call session.now steps.old).outcome }
     ensures written_again { lists.ReadWritten session.now }
@@ -172,8 +170,7 @@ pub extern "C" fn cusphewa_read(session: &[u8], steps: &mut [u32]) -> u64
 }
 
 // Where a session's owners stand, for the host: offset and size in one.
-#[unsafe(no_mangle)]
-pub extern "C" fn cusphewa_owners(session: &[u8]) -> u64
+pub fn cusphewa_owners(session: &[u8]) -> u64
     ensures value { result ≡ part_code (lists.owners_part session.now) }
     ensures decoded { part_in result ≡ lists.owners_part session.now }
     ensures there { lists.OwnersThere session.now }

@@ -1,4 +1,6 @@
 // DECIDE: a save whose entries are granted is committed, or runs again.
+#![tactic(auto)]
+
 ghost use Rattle.std.specs.Prelude.{◌<◌};
 ghost use Rattle.rules.specs.Bytes.{Decide};
 ghost use Rattle.sets.specs.Bit.{blocks};

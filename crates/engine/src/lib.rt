@@ -1,4 +1,6 @@
 // One step of a session.
+#![tactic(auto)]
+
 ghost use Rattle.wire.specs.Meaning.{command_of};
 ghost use Rattle.state.specs.Slices.{slices};
 ghost use Rattle.state.specs.Fit.{Ready, Rising, Fit};

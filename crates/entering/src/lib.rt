@@ -1,4 +1,6 @@
 // A save enters the queues of its sheets at a node: the first sheet where its check fails.
+#![tactic(auto)]
+
 ghost use Rattle.std.specs.Prelude.{◌+◌, ◌*◌, ◌≤◌, ◌<◌, ◌≡◌, ◌&&◌, ◌||◌, cond, length, get_or, eqb, ltb};
 ghost use Rattle.rules.specs.Table.{any};
 ghost use Rattle.sets.specs.Bit.{bit, low, word, stride, blocks};

@@ -2,6 +2,8 @@
 //
 // A column of the table is a word with a byte for each command, BEGIN's the lowest. So no branch goes by the command: where the commands
 // come in no order, it would be guessed wrong at every other step.
+#![tactic(auto)]
+
 ghost use Rattle.std.specs.Prelude.{◌≡◌, ◌&&◌, ℕ, suc, ◌+◌, ltb};
 ghost use Rattle.rules.specs.Bytes.{widths};
 ghost use Rattle.forms.specs.Slots.{slot, operands, is_present, slot_limit, Known};
@@ -37,7 +39,7 @@ const LAST_SAVE: u64 = limits::MAX_SAVES as u64 - 1;
 const LARGEST_CONTENT: u32 = 4294967295;
 
 // Two columns: the largest first and the largest second operand of each command, 0 where it has none.
-#[derive(Drop)]
+#[derive(Clone, Copy)]
 pub struct Largest {
     pub first: u64,
     pub second: u64,

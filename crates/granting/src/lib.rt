@@ -1,4 +1,6 @@
 // Whether a save can be decided: it was taken by every node that owns a claimed sheet, and its entries are granted.
+#![tactic(auto)]
+
 ghost use Rattle.std.specs.Prelude.{◌<◌, ◌≡◌, cond};
 ghost use Rattle.rules.specs.Table.{all};
 ghost use Rattle.sets.specs.Bit.{bit, blocks};

@@ -1,4 +1,6 @@
 // Claims and own copies as lines, C t k c m with v w b where there is a copy: of every save, and of every sheet that it claims or has a copy of.
+#![tactic(auto)]
+
 ghost use Rattle.std.specs.Prelude.{◌≡◌, ◌||◌, ◌+◌, ◌*◌, ◌<◌, ◌≤◌, ltb};
 ghost use Rattle.rules.specs.Showing as rules;
 ghost use Rattle.rules.specs.Showing.{rising};

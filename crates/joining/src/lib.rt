@@ -1,4 +1,6 @@
 // A save joins the end of the order: its claim, its place; and gives up a former one.
+#![tactic(auto)]
+
 ghost use Rattle.std.specs.Prelude.{◌+◌, ◌*◌, ◌≤◌, ◌<◌, length};
 ghost use Rattle.sets.specs.Bit.{stride, blocks};
 ghost use Rattle.state.specs.View.{placed, ORDER, QUEUE, rows};

@@ -1,4 +1,6 @@
 // A save's entries go from the queues: at a node, by APPLY, or everywhere, by SUBMIT of a wide run.
+#![tactic(auto)]
+
 ghost use Rattle.std.specs.Prelude.{◌+◌, ◌*◌, ◌≤◌, ◌<◌, ◌&&◌, length, eqb};
 ghost use Rattle.sets.specs.Bit.{bit, in_row, stride, blocks};
 ghost use Rattle.sets.specs.Loop.{of_block, Inside};

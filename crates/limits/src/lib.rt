@@ -1,4 +1,5 @@
 // The sizes of one session. Each number stands here once, under the name that it has in the rules' definitions; the other crates refer to it.
+#![tactic(auto)]
 
 // At most so many of each.
 pub const MAX_NODES: usize = 8;

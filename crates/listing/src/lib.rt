@@ -1,4 +1,6 @@
 // Reading a session: its header and all its steps, in words. First everything is tested, then written.
+#![tactic(auto)]
+
 ghost use Rattle.std.specs.Prelude.{◌≡◌, cond, [], ◌∷◌, ℕ, ◌+◌, ◌<◌, ◌≤◌, length, get_or, drop, eqb};
 ghost use Rattle.rules.specs.Bytes.{widths};
 ghost use Rattle.rules.specs.Writing as rules;
@@ -11,14 +13,14 @@ use forms::{LONGEST, Largest, SHORTEST, STEP_WORDS};
 use wire::Opened;
 
 // Node count, sheet count and how many steps were read, or a refusal with its place.
-#[derive(Drop)]
+#[derive(Clone, Copy)]
 pub enum Listed {
     Steps(u8, u16, usize),
     Refused(usize, u8),
 }
 
 // How many steps there are, or the first refusal of a step with its offset.
-#[derive(Drop)]
+#[derive(Clone, Copy)]
 enum Counted {
     Steps(usize),
     Refused(usize, u8),

@@ -1,4 +1,6 @@
 // The front of a queue. A queue is a set of saves, and each save has the set of those placed before it, so that no test walks over places.
+#![tactic(auto)]
+
 ghost use Rattle.std.specs.Prelude.{◌+◌, ◌*◌, ◌≤◌, ◌<◌, ◌≡◌, true, ◌≢◌, length};
 ghost use Rattle.sets.specs.Bit.{bit};
 ghost use Rattle.state.specs.View.{QUEUE, queue_of, queue_x_of, queued, queued_x};

@@ -1,4 +1,6 @@
 // The report call, in a module of its own: it asks nothing of a run but the report, so the compiler's loop over the commands carries no answer along.
+#![tactic(auto)]
+
 ghost use Rattle.std.specs.Prelude.{◌≡◌, ◌<◌, ◌≤◌, length};
 ghost use Rattle.rules.specs.Demand3.{SessionDemand3};
 ghost use Rattle.rules.specs.Neighbours.{SessionNeighbours};
@@ -12,8 +14,7 @@ use limits::MIN_BUFFER;
 use wire::Opened;
 
 // The whole-session call, for the host: the report's length, or 0 where the buffer is too short, which is then untouched.
-#[unsafe(no_mangle)]
-pub extern "C" fn cusphewa_report(session: &[u8], report: &mut [u8]) -> usize
+pub fn cusphewa_report(session: &[u8], report: &mut [u8]) -> usize
     ensures report_after { record { size = result; buffer = report.new } ≡ rules.report_call session.now report.old }
     ensures demand3 { SessionDemand3 session.now }
     ensures neighbours { SessionNeighbours session.now }

@@ -1,4 +1,6 @@
 // A state's lines. The P lines come from rows: the order of places is a list of rows, each with save, runs and outcome, by last place.
+#![tactic(auto)]
+
 ghost use Rattle.std.specs.Prelude.{◌≡◌, ◌+◌, ◌*◌, ◌<◌, ◌≤◌, [], map, length, take};
 ghost use Rattle.rules.specs.Report as rules;
 ghost use Rattle.state.specs.Slices.{slices};
@@ -14,7 +16,7 @@ use state::Session;
 pub const MOST_LINES: usize = 26 * Session::SAVES + 35 * Session::SHEETS + 35;
 
 // A last place of the order: its save, the runs entered, the outcome's letter.
-#[derive(Drop)]
+#[derive(Clone, Copy)]
 pub struct Row {
     pub save: u8,
     pub runs: u8,
@@ -44,7 +46,7 @@ pub fn place_lines(buf: &mut [u8], at: usize, rows: &[Row], count: usize) -> usi
     e
 }
 
-// The same of an array by value: a caller lends no slice of structs, which would take a proof by hand.
+// The same of an array by value, as `rows_of` makes it.
 pub fn write_rows(buf: &mut [u8], at: usize, rows: [Row; Session::SAVES], count: usize) -> usize
     requires { (count ≤ 32) × (at + 26 * count ≤ length buf.old) }
     ensures { Wrote buf.old at (lines_of (take count rows)) (26 * count) result buf.new }

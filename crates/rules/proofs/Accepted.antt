@@ -14,7 +14,7 @@ use Rattle.rules.specs.Bytes.{Header, Command, Begin, Read, Write, Submit, Take,
 use Rattle.rules.specs.State.{Phase, unused, first, submitted, second, committed, dropped, State, fresh, is_first, running, claims, wide}
 use Rattle.rules.specs.Steps.{mem, owns, next, next_is_last, tests, check, Checked, pass, refuse, submit_save, take_next, decide_save, effect, answer, prepend, run}
 use Rattle.rules.specs.Serial.{feed, says_again, History, no_history, commit, join, hear, heard, reads_after, first_reads}
-use Rattle.rules.specs.Demand3.{events, after, told, first_answers}
+use Rattle.rules.specs.Demand3.{after, told, first_answers}
 use Rattle.rules.proofs.Table.{bool, and_l, and_r, any_at}
 use Rattle.rules.proofs.Tests.{passed_asked}
 use Rattle.rules.proofs.Places.{entries, fold, entries_out}

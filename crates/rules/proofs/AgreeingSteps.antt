@@ -1,7 +1,7 @@
 -- Writing and run agree on 2 and 4, step by step, by the table of commands; what is written are bytes, of which reading and run agree.
 use Prim.Native.Nat.{ℕ, zero, suc, ◌/◌, ◌%◌, ◌^◌, ◌<◌}
-use mathlib.Core.Path.{◌≡◌, refl, sym, ◌∙◌}
-use mathlib.Core.Bool.{Bool, true, false, ◌&&◌, cond}
+use mathlib.Core.Path.{◌≡◌, refl, sym}
+use mathlib.Core.Bool.{true, ◌&&◌, cond}
 use mathlib.Core.List.{List, [], ◌∷◌, ◌++◌}
 use mathlib.Core.Option.{Option, none, some}
 use native.Mathlib.Omega.{arith}
@@ -11,7 +11,7 @@ use borrow.Author.Tests.{lt-leb, eqb-true}
 use Rattle.rules.specs.Bytes.{in_range, Operand, width, Form, form_of, commands}
 use Rattle.rules.specs.State.{State}
 use Rattle.rules.specs.Steps.{Test, tests, first_failed, Checked, pass, refuse}
-use Rattle.rules.specs.Writing.{Heading, Instruction, header_of, slots, zeros, operands_fit, heading_fits, form, check_by, steps_refusal, in_bytes, operand_bytes, operands_in, step_bytes, steps_bytes, session_bytes, bytes, write, Bytes}
+use Rattle.rules.specs.Writing.{Heading, Instruction, header_of, slots, zeros, operands_fit, heading_fits, form, check_by, steps_refusal, in_bytes, operand_bytes, operands_in, step_bytes, steps_bytes, bytes, write, Bytes}
 use Rattle.rules.specs.Agreeing.{run_check, up_to_four, in_widths, whole_step, WritesAsRun, WrittenRuns}
 use Rattle.rules.proofs.Table.{bool, below?, and_l, and_r}
 use Rattle.rules.proofs.Demand3.{owners_below}

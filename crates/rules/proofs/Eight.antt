@@ -5,9 +5,9 @@ use mathlib.Core.Logic.{◌≢◌}
 use mathlib.Core.List.{List, [], ◌∷◌}
 use native.Mathlib.Omega.{arith}
 use lib.ListN.{length, drop}
-use Rattle.rules.specs.Bytes.{header, header_size, Command, Begin, Read, Write, Submit, Take, Decide, Apply, GiveUp, Front, unknown, cut, whole, front, read_front, read_from, Stop, ended, stopped, opens, reading}
+use Rattle.rules.specs.Bytes.{header, header_size, Command, Begin, Read, Write, Submit, Take, Decide, Apply, GiveUp, Front, unknown, cut, whole, front, read_front, read_from, opens, reading}
 use Rattle.rules.specs.State.{State, fresh}
-use Rattle.rules.specs.Steps.{tests, Checked, pass, refuse, check, effect, Event, run}
+use Rattle.rules.specs.Steps.{tests, Checked, pass, refuse, check, effect, run}
 use Rattle.rules.specs.Demand3.{session_commands}
 use Rattle.rules.specs.Calls.{session_run, stop_by, step_at, stop}
 use Rattle.rules.specs.Eight.{NotEight, NeverEight}

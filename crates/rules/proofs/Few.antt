@@ -1,23 +1,23 @@
 -- No report is empty, and no session has more steps or answers than its bytes have room for.
 use Prim.Native.Nat.{ℕ, zero, suc, ◌+◌, ◌*◌, ◌≤◌, ◌<◌}
 use mathlib.Core.Path.{◌≡◌, refl}
-use mathlib.Core.Bool.{true, false}
-use mathlib.Core.List.{List, [], ◌∷◌, ◌++◌}
+use mathlib.Core.Bool.{true}
+use mathlib.Core.List.{List, [], ◌∷◌}
 use mathlib.Core.Option.{Option, none, some}
 use native.Mathlib.Omega.{arith}
 use lib.Dec.{ltb}
 use lib.ListN.{length, drop, length-append, length-drop, length-map}
 use borrow.Author.Tests.{ltb-true, ltb-false}
 use Rattle.rules.specs.Sizes.{min_buffer}
-use Rattle.rules.specs.Bytes.{byte, header, header_size, opens, Form, form_of, commands, widths, values, Front, unknown, cut, whole, front, front_by, Step, Stop, ended, stopped, Reading, more, read_front, read_from, reading}
-use Rattle.rules.specs.State.{State, fresh, Tally}
+use Rattle.rules.specs.Bytes.{header, header_size, opens, Form, form_of, commands, widths, front_by, Step, Stop, ended, stopped, Reading, read_front, read_from, reading}
+use Rattle.rules.specs.State.{State, fresh}
 use Rattle.rules.specs.Steps.{Result, answered, refused, step}
 use Rattle.rules.specs.Calls.{session_run}
-use Rattle.rules.specs.Report.{place_lines, rows, sheet_lines, tally_line, refusal_line, stop_line, state_lines, report, report_call, OnlyTwelve}
-use Rattle.rules.specs.Writing.{Heading, Instruction, form, read, session, steps, list_from, FewSteps}
-use Rattle.rules.specs.Answers.{reading-reply, reply-on, replies, session-replies, FewAnswers}
+use Rattle.rules.specs.Report.{tally_line, refusal_line, stop_line, state_lines, report, report_call, OnlyTwelve}
+use Rattle.rules.specs.Writing.{FewSteps}
+use Rattle.rules.specs.Answers.{reply_on, replies, session_replies, FewAnswers}
 use Rattle.rules.proofs.Table.{bool}
-use Rattle.rules.proofs.Sessions.{stop_unopened, report_unopened}
+use Rattle.rules.proofs.Sessions.{stop_unopened}
 use Rattle.rules.proofs.Writing.{in_table, opened, ranged, read_inverts, read_steps}
 
 -- ---- The report
@@ -79,7 +79,7 @@ few_replies s [] ended = omega arith
 few_replies s [] (stopped p n shown) = omega arith
 few_replies s (c ∷ cs) x = go (step s c.command).result (step s c.command).state (λ s'. few_replies s' cs x)
   where
-    go : (r : Result) (s' : State) → ((s' : State) → length (replies s' cs x) ≤ length cs + one_more x) → length (reply-on r c.offset s' (λ s'. replies s' cs x)) ≤ suc (length cs) + one_more x
+    go : (r : Result) (s' : State) → ((s' : State) → length (replies s' cs x) ≤ length cs + one_more x) → length (reply_on r c.offset s' (λ s'. replies s' cs x)) ≤ suc (length cs) + one_more x
     go (answered a) s' on = omega (arith, on s')
     go (refused n) s' on = omega arith
 
@@ -88,5 +88,5 @@ stop_one ended = omega arith
 stop_one (stopped p n shown) = omega arith
 
 pub few_answers : (b : List ℕ) → FewAnswers b
-unfolding session-replies
+unfolding session_replies
 few_answers b o = omega (arith, few_replies (fresh (header b)) (reading b).steps (reading b).stop, session_small b o, stop_one (reading b).stop)

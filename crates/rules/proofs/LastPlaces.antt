@@ -1,7 +1,7 @@
 -- The saves by last place as entries that ask nothing: who is among them, and what a new place does to them.
 use Prim.Native.Nat.{ℕ, zero, suc, ◌+◌, ◌≤◌, ◌<◌}
 use mathlib.Core.Path.{◌≡◌, refl, sym, ap, ◌∙◌}
-use mathlib.Core.Bool.{Bool, true, false, not, ◌&&◌, cond, and-true}
+use mathlib.Core.Bool.{Bool, true, false, ◌&&◌, and-true}
 use mathlib.Core.Logic.{◌≢◌}
 use mathlib.Core.List.{List, [], ◌∷◌, ◌++◌}
 use native.Mathlib.Omega.{arith}
@@ -14,7 +14,7 @@ use Rattle.rules.specs.Sizes.{max_saves}
 use Rattle.rules.specs.State.{at, is_last, by_last}
 use Rattle.rules.specs.Steps.{mem, without}
 use Rattle.rules.proofs.Table.{bool, same?, upd_same, sum, sum_le, sum_falls, sum_bound, one, one_one}
-use Rattle.rules.proofs.Places.{without_snoc, by, entries, entries_by, entries_cong, entries_in, entries_out, entries_without, entries_moved, snoc_old, snoc_new}
+use Rattle.rules.proofs.Places.{without_snoc, by, entries, entries_in, entries_out, entries_without, entries_moved, snoc_old, snoc_new}
 
 abbrev anyone : ℕ → Bool
 anyone u = true

@@ -1,6 +1,6 @@
 -- Lists by places of the order: `entries`, the saves of a test by last place (a queue), and `fold`, a sheet as such saves leave it.
 -- Laws go by saves and their last places; callers never look into the recursion.
-use Prim.Native.Nat.{ℕ, zero, suc, ◌+◌, ◌≤◌, ◌<◌}
+use Prim.Native.Nat.{ℕ, zero, suc, ◌≤◌, ◌<◌}
 use mathlib.Core.Path.{◌≡◌, refl, sym, ap, ◌∙◌}
 use mathlib.Core.Bool.{Bool, true, false, not, ◌&&◌, ◌||◌, cond, true≢false, or-true, or-false, and-false, and-true}
 use mathlib.Core.Logic.{◌≢◌}

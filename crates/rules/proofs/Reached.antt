@@ -1,21 +1,21 @@
 -- The states that commands lead to from new nodes: the invariant holds, and the figures stay small.
-use Prim.Native.Nat.{ℕ, zero, suc, ◌+◌, ◌*◌, ◌≤◌, ◌<◌}
+use Prim.Native.Nat.{ℕ, suc, ◌+◌, ◌*◌, ◌≤◌, ◌<◌}
 use mathlib.Core.Path.{◌≡◌, refl, sym}
-use mathlib.Core.Bool.{Bool, true, false, ◌&&◌, ◌||◌, true≢false}
+use mathlib.Core.Bool.{Bool, true, false, ◌||◌, true≢false}
 use mathlib.Core.List.{List, [], ◌∷◌}
 use mathlib.Core.Option.{Option, none}
 use native.Mathlib.Omega.{arith}
 use native.Mathlib.Nat.{le_refl}
-use lib.ListN.{length, length-append}
-use lib.Dec.{eqb, ltb}
-use borrow.Author.Tests.{eqb-true, eq-eqb, lt-ltb, le-ltb, ltb-true}
+use lib.ListN.{length}
+use lib.Dec.{ltb}
+use borrow.Author.Tests.{ltb-true}
 use Rattle.rules.specs.Table.{upd}
 use Rattle.rules.specs.Sizes.{max_saves}
 use Rattle.rules.specs.Bytes.{Header, Command, Begin, Read, Write, Submit, Take, Decide, Apply, GiveUp}
-use Rattle.rules.specs.State.{Sheet, store, Phase, unused, first, submitted, second, committed, dropped, Tally, State, fresh, is_unused, is_first, is_submitted, running, wide, at, is_last, by_last}
+use Rattle.rules.specs.State.{Sheet, store, Phase, unused, first, submitted, second, committed, dropped, Tally, State, fresh, is_unused, is_first, is_submitted, running, wide, at, by_last}
 use Rattle.rules.specs.Steps.{next, next_is_last, finds_invalid, tests, check, Checked, pass, refuse, counted, counted_first, counted_second, counted_commit, submit_save, take_next, decide_save, receives, effect, answer, step_by, step, run}
 use Rattle.rules.specs.Serial.{History, no_history, says_again, hear, reads_after}
-use Rattle.rules.proofs.Table.{bool, cond_at, upd_same, upd_other, sum, sum_le, sum_rises, sum_falls, sum_bound, one, one_one}
+use Rattle.rules.proofs.Table.{cond_at, upd_same, upd_other, sum, sum_rises, sum_falls, sum_bound, one, one_one}
 use Rattle.rules.proofs.Tests.{passed_asked}
 use Rattle.rules.proofs.Storing.{store_most}
 use Rattle.rules.proofs.Places.{snoc_long}

@@ -1,18 +1,17 @@
 -- A list that swaps lead to, written under the session's own header, is a session with the same report.
 use Prim.Native.Nat.{ℕ, suc, ◌+◌, ◌≤◌}
-use mathlib.Core.Path.{◌≡◌, refl, sym, ap, ◌∙◌}
-use mathlib.Core.List.{List, [], ◌∷◌, ◌++◌, map}
+use mathlib.Core.Path.{◌≡◌, refl, sym, ◌∙◌}
+use mathlib.Core.List.{List, [], ◌∷◌, map}
 use mathlib.Core.Option.{none}
 use native.Mathlib.Omega.{arith}
 use lib.ListN.{length, length-append}
 use Rattle.rules.specs.Sizes.{max_session}
-use Rattle.rules.specs.Bytes.{Command, ended, opens, header, reading}
+use Rattle.rules.specs.Bytes.{Command, ended}
 use Rattle.rules.specs.Steps.{pass}
 use Rattle.rules.specs.Calls.{stop}
 use Rattle.rules.specs.Demand3.{session_commands}
-use Rattle.rules.specs.Report.{report}
-use Rattle.rules.specs.Writing.{Heading, Instruction, check_step, refusal_at, steps_refusal, step_bytes, steps_bytes, session_bytes, bytes, write, heading, Listed, session, refuses, read, Bytes, as_step}
-use Rattle.rules.specs.Neighbours.{Swaps, as_it_was, swap, behind, then, SwappedSteps, SameReport, swapped_session, WrittenSwapped, SwappedReport}
+use Rattle.rules.specs.Writing.{Heading, Instruction, check_step, refusal_at, steps_refusal, step_bytes, steps_bytes, heading, Listed, session, refuses, read, Bytes, as_step}
+use Rattle.rules.specs.Neighbours.{Swaps, as_it_was, swap, behind, then, SwappedSteps, SameReport, swapped_session, SwappedReport}
 use Rattle.rules.proofs.Writing.{none_first, none_passes, writes, write_inverts, read_inverts, read_written, written_read, read_run, as_steps, read_steps, read_whole}
 use Rattle.rules.proofs.Agreeing.{always_agrees}
 

@@ -8,8 +8,8 @@ use lib.ListN.{drop}
 use lib.Dec.{eqb, ltb}
 use borrow.Author.Tests.{eqb-true}
 use Rattle.rules.specs.Sizes.{max_saves}
-use Rattle.rules.specs.Bytes.{Command, Begin, Read, Write, Submit, Take, Decide, Apply, GiveUp}
-use Rattle.rules.specs.State.{Phase, unused, first, submitted, second, committed, dropped, State, is_unused, is_submitted, running, over}
+use Rattle.rules.specs.Bytes.{Begin, Read, Write, Submit, Take, Decide, Apply, GiveUp}
+use Rattle.rules.specs.State.{Phase, unused, first, submitted, second, committed, dropped, is_unused, is_submitted, running, over}
 use Rattle.rules.specs.Steps.{Test, Checked, pass, refuse, first_failed, tests}
 use Rattle.rules.specs.WhichPhase.{by, told, Tabled}
 use Rattle.rules.proofs.Table.{bool, and_l, and_r}

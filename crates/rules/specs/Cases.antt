@@ -86,7 +86,7 @@ starred =
     -- GIVE UP in the second run, then APPLY; in the first run
     ∷ case (w_43 ++ "08 01  07 00 01") (answers accepted) "" "P 0 1 C\nP 1 2 D\nO 0 7 1\nO 1 0 0\nT 15 1 0\n"
     ∷ case (fresh ++ "01 00  08 00") (answers accepted) "" "O 0 0 0\nT 2 0 0\n"
-    -- second_run SUBMIT with no READ
+    -- second-run SUBMIT with no READ
     ∷ case (w_43 ++ "04 01  07 00 01") (answers accepted) "" "P 0 1 C\nP 1 2 C\nO 0 7 1\nO 1 0 0\nT 15 1 1\n"
     ∷ []
 

@@ -1,5 +1,5 @@
 -- "Refusal 8 never occurs any more": document 02 [7]. It follows from the tests (proofs/Eight.antt).
-use Rattle.std.specs.Prelude.{ℕ, ◌≡◌, ◌≢◌, List}
+use Rattle.std.specs.Prelude.{ℕ, ◌≢◌, List}
 use Rattle.rules.specs.Bytes.{Command, Stop, ended, stopped}
 use Rattle.rules.specs.State.{State}
 use Rattle.rules.specs.Steps.{refuse, check}

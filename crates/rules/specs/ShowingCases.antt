@@ -1,5 +1,5 @@
 -- Sessions in hexadecimal with their state's text, and with every command's answer. proofs/ShowingCases.antt proves both tables.
-use Rattle.std.specs.Prelude.{ℕ, List, [], ◌∷◌}
+use Rattle.std.specs.Prelude.{List, [], ◌∷◌}
 use Prim.Native.String.{String, ◌++◌}
 use Rattle.rules.specs.Steps.{x_granted, cause, valid, invalid, accepted, content_is, took, commits, second_run}
 use Rattle.rules.specs.Calls.{Reply, answers, refusal}

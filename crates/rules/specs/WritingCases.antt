@@ -1,5 +1,5 @@
 -- Cases of request 2: lists and sessions, with what a call answers and leaves in the room lent. proofs/WritingCases.antt proves the whole table.
-use Rattle.std.specs.Prelude.{ℕ, ◌-◌, List, [], ◌∷◌, length, replicate}
+use Rattle.std.specs.Prelude.{ℕ, List, [], ◌∷◌, length, replicate}
 use Prim.Native.String.{String}
 use Rattle.rules.specs.Cases.{hex}
 use Rattle.rules.specs.Writing.{Heading, Outcome, wrote, listed, refuse_with, at}

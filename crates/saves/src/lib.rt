@@ -1,4 +1,6 @@
 // The commands that change a save's phase alone: BEGIN and GIVE UP. Each does what its rule says.
+#![tactic(auto)]
+
 ghost use Rattle.std.specs.Prelude.{◌≤◌, ◌<◌, length};
 ghost use Rattle.rules.specs.Bytes.{Begin, GiveUp};
 ghost use Rattle.state.specs.View.{part, ORDER, RUNS};

@@ -1,4 +1,6 @@
 // The run over a whole session.
+#![tactic(auto)]
+
 ghost use Rattle.std.specs.Prelude.{◌≡◌, ◌+◌, ◌*◌, ◌≤◌, ◌<◌, length};
 ghost use Rattle.rules.specs.Sizes.{max_session, min_buffer};
 ghost use Rattle.rules.specs.Report as rules;
@@ -18,21 +20,21 @@ use tally::Tally;
 use wire::Next;
 
 // Where a run stopped: at the session's end, or at a refusal with its offset, its number and the number of bytes shown.
-#[derive(Drop)]
+#[derive(Clone, Copy)]
 pub enum Stop {
     End,
     Refused(usize, u8, usize),
 }
 
 // The same without the bytes shown, which the walk does not ask for.
-#[derive(Drop)]
+#[derive(Clone, Copy)]
 pub enum Halt {
     End,
     Refused(usize, u8),
 }
 
 // The answer of a call on a session.
-#[derive(Drop)]
+#[derive(Clone, Copy)]
 pub enum Reply {
     NoCommand,
     Accepted,
@@ -76,7 +78,7 @@ pub fn told(a: Answer) -> Reply
 }
 
 // The last accepted command's answer, or that there was no command yet.
-#[derive(Drop)]
+#[derive(Clone, Copy)]
 pub struct Last {
     answer: Answer,
 }
@@ -90,7 +92,7 @@ impl Last {
 }
 
 // What the walk over a session's commands comes to, beside the slices.
-#[derive(Drop)]
+#[derive(Clone, Copy)]
 pub struct Walked {
     pub tally: Tally,
     pub last: Last,
@@ -109,7 +111,7 @@ fn halted(tally: Tally, last: Last, stop: Halt) -> Walked
 }
 
 // What a run comes to: the report's length, the last accepted command's answer, and the stop.
-#[derive(Drop)]
+#[derive(Clone, Copy)]
 pub struct Ended {
     pub size: usize,
     pub last: Reply,

@@ -1,4 +1,6 @@
 // Sets of numbers below 64 as words: k is a member where digit k is 1. A loop over a set takes its lowest member and goes on with the rest.
+#![tactic(auto)]
+
 ghost use Rattle.std.specs.Prelude.{◌<◌, ◌≡◌, not, ◌&&◌, ◌||◌, eqb};
 ghost use Rattle.rules.specs.Table.{any};
 ghost use Rattle.sets.specs.Bit.{bit, low, Rest};

@@ -1,4 +1,6 @@
 // The state as text: the report's lines, then the saves, the order, the nodes, claims and own copies, the queues.
+#![tactic(auto)]
+
 ghost use Rattle.std.specs.Prelude.{◌≡◌, ◌&&◌, [], ◌+◌, ◌*◌, ◌<◌, ◌≤◌, length, get_or, eqb};
 ghost use Rattle.rules.specs.Sizes.{max_sheets};
 ghost use Rattle.rules.specs.State.{is_second};

@@ -7,7 +7,6 @@ use mathlib.Core.List.{List}
 use native.Mathlib.Omega.{arith}
 use lib.ListN.{length, get_or}
 use lib.Dec.{eqb, ltb}
-use Rattle.rules.specs.State.{at}
 use Rattle.rules.proofs.Table.{same?}
 use Rattle.sets.specs.Bit.{bit, word, blocks}
 use Rattle.state.specs.View.{part, member, in_set, owner_in, header_of, claim_of, claim_in, placed, place_in, queued, queued_x, rows, COPIED, WRITTEN, CLAIM, CLAIM_X, HELD, OWNED, NODES, PLACE, TAKEN, PLACED, BEFORE, JOINED, QUEUE}

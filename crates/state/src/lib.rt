@@ -5,6 +5,8 @@
 // to a row of words: word j of a row stands in block j and has the sheets from 64 * j on. `q` has the numbers of places, then sets of saves: those
 // placed before each save, all that are placed, and by sheet the queue and the X in it. `value` and `seen` have a row of m for each save, with the
 // contents of its copies and the WCTs seen; `w` has the sheets' contents, then their WCTs.
+#![tactic(auto)]
+
 ghost use Rattle.std.specs.Prelude.{◌+◌, ◌*◌, ◌/◌, ◌%◌, ◌≤◌, ◌<◌, ◌≡◌, ◌||◌, eqb, length, get_or, set};
 ghost use Rattle.sets.specs.Bit.{bit, word, in_row, stride, blocks};
 ghost use Rattle.state.specs.Slices.{slices};
@@ -103,28 +105,28 @@ impl Session {
 }
 
 // Why a save fails at a sheet.
-#[derive(Drop)]
+#[derive(Clone, Copy)]
 pub enum Rule {
     XGranted,
     XWaiting,
     CounterBehind,
 }
 
-#[derive(Drop)]
+#[derive(Clone, Copy)]
 pub struct Cause {
     pub sheet: usize,
     pub rule: Rule,
 }
 
 // What a node finds a save at its TAKE: where it is invalid, the first cause that the node met.
-#[derive(Drop)]
+#[derive(Clone, Copy)]
 pub enum Verdict {
     Valid,
     Invalid(Cause),
 }
 
 // `CommitsLater` is a DECIDE of a save that has run again, `Recommits` a later run's SUBMIT that is accepted and commits: the tally tells them.
-#[derive(Drop)]
+#[derive(Clone, Copy)]
 pub enum Answer {
     Accepted,
     Content(u32),

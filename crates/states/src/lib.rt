@@ -1,4 +1,6 @@
 // The state after a session's accepted commands, as text into a lent room: the call that shows it.
+#![tactic(auto)]
+
 ghost use Rattle.std.specs.Prelude.{◌≡◌, ◌≤◌, length};
 ghost use Rattle.rules.specs.Sizes.{max_state};
 ghost use Rattle.rules.specs.Showing.{GrantedAlone, state_text, state_call};
@@ -83,8 +85,7 @@ fn show(session: &[u8], room: &mut [u8], nodes: u8, sheets: u16) -> Placed
 }
 
 // Writes the state after the session's accepted commands, as text: how many bytes it has, or a refusal, which writes nothing.
-#[unsafe(no_mangle)]
-pub extern "C" fn cusphewa_state(session: &[u8], room: &mut [u8]) -> u64
+pub fn cusphewa_state(session: &[u8], room: &mut [u8]) -> u64
     ensures room_after { record { code = result; room = room.new } ≡ told_call (state_call session.now room.old) }
     ensures decoded { outcome_in result ≡ (state_call session.now room.old).outcome }
     ensures short { ShortText session.now }

@@ -1,4 +1,6 @@
 // The sheets of a node receive what a save wrote, and their WCTs rise where a content changes.
+#![tactic(auto)]
+
 ghost use Rattle.std.specs.Prelude.{◌+◌, ◌*◌, ◌≤◌, ◌<◌, ◌≡◌, ◌&&◌, cond, length, eqb};
 ghost use Rattle.sets.specs.Bit.{bit, in_row, stride, blocks};
 ghost use Rattle.sets.specs.Loop.{of_block, Inside};

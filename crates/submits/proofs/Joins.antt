@@ -1,6 +1,6 @@
 -- A save without a place joins the end of the order.
 use Prim.Native.Nat.{ℕ, suc, ◌+◌, ◌*◌, ◌≤◌, ◌<◌}
-use mathlib.Core.Path.{◌≡◌, refl, sym, ap, ◌∙◌, fun_ext}
+use mathlib.Core.Path.{◌≡◌, refl, sym, ap, ◌∙◌, fun_ext, subst}
 use mathlib.Core.Bool.{Bool, true, false, and-false, or-true, or-false}
 use mathlib.Core.Logic.{◌≢◌}
 use mathlib.Core.List.{List, [], ◌∷◌, ◌++◌}
@@ -55,11 +55,16 @@ entries_cut order place f n = entries_by order (take n order) place place f f n 
     by_at q e = rw e
 
 -- a save without an entry takes the place after n
+joined_at_end : (order : List ℕ) (place : ℕ → ℕ) (f : ℕ → Bool) (t : ℕ) → f t ≡ false
+    → entries (order ++ t ∷ []) (upd place t (length order)) f (suc (length order)) ≡ without t (entries order place f (length order))
+unfolding entries by
+joined_at_end order place f t z = rw (snoc_new order place t, z, and-false (eqb (upd place t (length order) t) (length order)))
+    (sym (entries_moved order place t f f (length order) (le_refl (length order)) (λ u d. refl)) ∙ sym (entries_without order place f t (length order)))
+
 entries_joined : (order : List ℕ) (place : ℕ → ℕ) (f : ℕ → Bool) (t n : ℕ) → length order ≡ n → f t ≡ false
     → entries (order ++ t ∷ []) (upd place t n) f (suc n) ≡ without t (entries order place f n)
-unfolding entries by
-entries_joined order place f t n e z = rw (← e, snoc_new order place t, z, and-false (eqb (upd place t (length order) t) (length order)))
-    (sym (entries_moved order place t f f (length order) (le_refl (length order)) (λ u d. refl)) ∙ sym (entries_without order place f t (length order)))
+entries_joined order place f t n e z =
+    subst (λ (k : ℕ). entries (order ++ t ∷ []) (upd place t k) f (suc k) ≡ without t (entries order place f k)) e (joined_at_end order place f t z)
 
 module _ {m t : ℕ} (t32 : t < 32) {b s q b' s' q' : List ℕ} (f : Free m t b s q) (j : Joining m t b s q b' s' q') where
   abbrev n : ℕ

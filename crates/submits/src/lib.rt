@@ -1,4 +1,6 @@
 // SUBMIT: a save joins the end of the order with its claim, or is committed.
+#![tactic(auto)]
+
 ghost use Rattle.std.specs.Prelude.{◌+◌, ◌*◌, ◌≤◌, ◌<◌, ◌≡◌, length};
 ghost use Rattle.rules.specs.Bytes.{Submit};
 ghost use Rattle.sets.specs.Bit.{bit, stride, blocks};

@@ -1,4 +1,6 @@
 // TAKE: a node takes the next place of the order.
+#![tactic(auto)]
+
 ghost use Rattle.std.specs.Prelude.{◌+◌, ◌*◌, ◌≤◌, ◌<◌, ◌≡◌, true, length};
 ghost use Rattle.rules.specs.Bytes.{Take};
 ghost use Rattle.sets.specs.Bit.{bit};

@@ -1,4 +1,6 @@
 // The running tally: T's three figures, advanced by each command.
+#![tactic(auto)]
+
 ghost use Rattle.std.specs.Prelude.{◌≡◌, ◌+◌, ◌<◌, ◌^◌};
 ghost use Rattle.state.specs.View.{advanced};
 ghost use Rattle.tally.specs.Figures.{figures, plus, Room};
@@ -6,7 +8,7 @@ ghost use Rattle.tally.specs.Figures.{figures, plus, Room};
 use state::Answer;
 
 // Commands accepted, saves committed from the first run, from a later one.
-#[derive(Drop)]
+#[derive(Clone, Copy)]
 pub struct Tally {
     pub accepted: u32,
     pub first: u32,
@@ -23,7 +25,7 @@ pub fn advance(t: &mut Tally, a: u32, f: u32, s: u32)
     t.second = t.second + s;
 }
 
-// By value, through the reference: a caller lends no struct, which would take a proof by hand.
+// By value, as an arm of `advanced` has it.
 pub fn advanced_by(t: Tally, a: u32, f: u32, s: u32) -> Tally
     requires { (t.accepted + a < 2 ^ 32) × (t.first + f < 2 ^ 32) × (t.second + s < 2 ^ 32) }
     ensures { result ≡ plus t a f s }

@@ -1,5 +1,7 @@
 // The report's lines. A writer stores them in a lent buffer from `at` on, and answers the place behind them. Each asks for
 // room as for the longest numbers of its types: a u32 has at most 10 figures.
+#![tactic(auto)]
+
 ghost use Rattle.std.specs.Prelude.{[], ◌∷◌, ◌+◌, ◌*◌, ◌<◌, ◌≤◌, length};
 ghost use Rattle.rules.specs.Report as rules;
 ghost use Rattle.text.specs.Wrote.{Wrote};

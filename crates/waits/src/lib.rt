@@ -1,5 +1,7 @@
 // Queues as lines, Q k t c g: of every sheet its entries from the front, each with its claim and whether it is granted; one that waits names the
 // saves whose entries stand in its way.
+#![tactic(auto)]
+
 ghost use Rattle.std.specs.Prelude.{[], ◌+◌, ◌*◌, ◌<◌, ◌≤◌, length, get_or, take};
 ghost use Rattle.rules.specs.Showing as rules;
 ghost use Rattle.sets.specs.Bit.{bit};

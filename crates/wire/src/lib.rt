@@ -1,4 +1,6 @@
 // A session's bytes: the command type, the reader that finds commands, and the header.
+#![tactic(auto)]
+
 ghost use Rattle.std.specs.Prelude.{◌≡◌, ◌≤◌, length, ltb};
 ghost use Rattle.std.proofs.Math.Option.{some};
 ghost use Rattle.rules.specs.Table.{all};
@@ -14,7 +16,7 @@ const MAX_SHEETS: u16 = limits::MAX_SHEETS as u16;
 
 // A command with its operands. A sheet number, one byte in a session, is an index from here on. With WRITE's content before its sheet no two fields
 // overlap: those that do are packed and taken apart again at every command.
-#[derive(Drop)]
+#[derive(Clone, Copy)]
 pub enum Command {
     Begin(u8),
     Read(u8, usize),
@@ -27,7 +29,7 @@ pub enum Command {
 }
 
 // What stands at the front of the rest of a session: a command with the number of its bytes, a byte that is no command, operands cut short, or nothing.
-#[derive(Drop)]
+#[derive(Clone, Copy)]
 pub enum Next {
     Step(Command, usize),
     Unknown,
@@ -36,7 +38,7 @@ pub enum Next {
 }
 
 // Whether a session opens, with its node count and its sheet count.
-#[derive(Drop)]
+#[derive(Clone, Copy)]
 pub enum Opened {
     Header(u8, u16),
     Bad,

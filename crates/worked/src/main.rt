@@ -1,10 +1,12 @@
 // Runs the worked session W of document 01 step by step, and prints the answers, one to a line.
+#![tactic(auto)]
+
 ghost use Rattle.std.specs.Prelude.{◌<◌, ◌≡◌};
 ghost use Rattle.wire.specs.Meaning.{command_of};
 ghost use Rattle.worked.specs.Worked.{command_at};
 
-use libc::STDOUT_FILENO;
 use state::{Answer, Cause, Rule, Session, Verdict};
+use std::io;
 use wire::Command;
 
 // W's commands.
@@ -33,57 +35,57 @@ fn command(i: usize) -> Command
     }
 }
 
-fn say(text: &[u8]) {
-    io::write_all(STDOUT_FILENO, text);
+fn say(rt: &impl Print, text: &[u8]) -> io::Result<()> {
+    rt.write_all(text)
 }
 
-fn number(n: u64) {
-    io::print_decimal(STDOUT_FILENO, n);
+fn number(rt: &impl Print, n: u64) -> io::Result<()> {
+    rt.print(n)
 }
 
-fn print_cause(cause: Cause) {
-    say(b" invalid ");
-    number(cause.sheet as u64);
+fn print_cause(rt: &impl Print, cause: Cause) -> io::Result<()> {
+    say(rt, b" invalid ")?;
+    number(rt, cause.sheet as u64)?;
     let rule = cause.rule;
     match rule {
-        Rule::XGranted => say(b" granted\n"),
-        Rule::XWaiting => say(b" waiting\n"),
-        Rule::CounterBehind => say(b" behind\n"),
+        Rule::XGranted => say(rt, b" granted\n"),
+        Rule::XWaiting => say(rt, b" waiting\n"),
+        Rule::CounterBehind => say(rt, b" behind\n"),
     }
 }
 
-fn print_verdict(v: Verdict) {
+fn print_verdict(rt: &impl Print, v: Verdict) -> io::Result<()> {
     match v {
-        Verdict::Valid => say(b" valid\n"),
-        Verdict::Invalid(cause) => print_cause(cause),
+        Verdict::Valid => say(rt, b" valid\n"),
+        Verdict::Invalid(cause) => print_cause(rt, cause),
     }
 }
 
-fn print(a: Answer) {
+fn print(rt: &impl Print, a: Answer) -> io::Result<()> {
     match a {
-        Answer::Accepted => say(b"accepted\n"),
+        Answer::Accepted => say(rt, b"accepted\n"),
         Answer::Content(v) => {
-            number(v as u64);
-            say(b"\n");
+            number(rt, v as u64)?;
+            say(rt, b"\n")
         }
         Answer::Took(t, v) => {
-            number(t as u64);
-            print_verdict(v);
+            number(rt, t as u64)?;
+            print_verdict(rt, v)
         }
-        Answer::Commits => say(b"commits\n"),
-        Answer::CommitsLater => say(b"commits\n"),
-        Answer::SecondRun => say(b"second run\n"),
-        Answer::Recommits => say(b"accepted\n"),
+        Answer::Commits => say(rt, b"commits\n"),
+        Answer::CommitsLater => say(rt, b"commits\n"),
+        Answer::SecondRun => say(rt, b"second run\n"),
+        Answer::Recommits => say(rt, b"accepted\n"),
         Answer::Refused(n) => {
-            say(b"refused ");
-            number(n as u64);
-            say(b"\n");
+            say(rt, b"refused ")?;
+            number(rt, n as u64)?;
+            say(rt, b"\n")
         }
     }
 }
 
 // Sheet 0 stands at node 0, sheet 1 at node 1.
-fn run() {
+fn run(rt: &impl Print) -> io::Result<()> {
     let mut b = [0u8; Session::BYTES];
     let mut s = [0u64; Session::SETS];
     let mut q = [0u64; Session::QUEUES];
@@ -96,11 +98,12 @@ fn run() {
     while i < 17 {
         let c = command(i);
         let a = engine::step(&mut b, &mut s, &mut q, &mut value, &mut seen, &mut w, 2, c);
-        print(a);
+        print(rt, a)?;
         i += 1;
     }
+    Ok(())
 }
 
-fn main() {
-    run();
+fn main(rt: HostRuntime) -> io::Result<()> {
+    run(&rt)
 }

@@ -10,7 +10,7 @@ use lib.ListN.{length, get_or, drop, length-append, length-drop, drop_of_length-
 use lib.Seq.{drop-cons, get_or-drop}
 use Rattle.rules.specs.Bytes.{Form, widths}
 use Rattle.rules.specs.Steps.{Checked, pass, refuse}
-use Rattle.rules.specs.Writing.{Instruction, at, operands_fit, form, check_by, check_step, steps_refusal, step_bytes, steps_bytes, instructions}
+use Rattle.rules.specs.Writing.{Instruction, operands_fit, form, check_by, check_step, steps_refusal, step_bytes, steps_bytes, instructions}
 use Rattle.rules.proofs.Table.{bool}
 use Rattle.forms.specs.Slots.{operands, Known}
 use Rattle.forms.proofs.Slots.{step_size, form_known}

@@ -8,7 +8,7 @@ use native.Mathlib.Nat.{mod-eq_of_lt}
 use native.Mathlib.Omega.{arith}
 use borrow.Author.Tests.{lt-ltb, le-ltb, lt-leb}
 use lib.ListN.{length, take, drop, length-append, length-take, drop_of_length-le}
-use Rattle.rules.specs.Writing.{at, heading_fits, steps_refusal, session_bytes, Written, bytes, write, write_into, wrote, refuse_with, Call, write_call, instructions}
+use Rattle.rules.specs.Writing.{at, heading_fits, steps_refusal, Written, bytes, write, write_into, wrote, refuse_with, Call, write_call, instructions}
 use Rattle.rules.specs.Sizes.{max_session}
 use Rattle.rules.specs.Report.{Filled}
 use Rattle.rules.proofs.Writing.{writes}

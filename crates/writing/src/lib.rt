@@ -1,4 +1,6 @@
 // Writing a session: a header and a list of steps, in words, as bytes. First everything is tested, then written.
+#![tactic(auto)]
+
 ghost use Rattle.std.specs.Prelude.{◌≡◌, List, [], ◌∷◌, ℕ, ◌+◌, ◌<◌, ◌≤◌, min, length, get_or, ltb};
 ghost use Rattle.rules.specs.Table.{all};
 ghost use Rattle.rules.specs.Bytes.{byte, widths};
@@ -13,14 +15,14 @@ use forms::{LONGEST, Largest, SHORTEST, STEP_WORDS};
 use limits::{MAX_NODES, MAX_SESSION, MAX_SHEETS};
 
 // How many bytes were written, or a refusal with its place.
-#[derive(Drop)]
+#[derive(Clone, Copy)]
 pub enum Written {
     Bytes(usize),
     Refused(usize, u8),
 }
 
 // How many steps there are and how many bytes they have, or the first refusal of a step with its place.
-#[derive(Drop)]
+#[derive(Clone, Copy)]
 enum Sized {
     Steps(usize, usize),
     Refused(usize, u8),

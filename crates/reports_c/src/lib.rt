@@ -1,0 +1,26 @@
+// The report call, exported to C. The call is the library's; here it gets its symbol.
+#![tactic(auto)]
+
+ghost use Rattle.std.specs.Prelude.{◌≡◌, ◌<◌, ◌≤◌, length};
+ghost use Rattle.rules.specs.Demand3.{SessionDemand3};
+ghost use Rattle.rules.specs.Neighbours.{SessionNeighbours};
+ghost use Rattle.rules.specs.Changes.{SessionChanges};
+ghost use Rattle.rules.specs.Eight.{NeverEight};
+ghost use Rattle.rules.specs.Counter.{AlwaysAddsMarks};
+ghost use Rattle.rules.specs.Sizes.{min_buffer};
+ghost use Rattle.rules.specs.Report as rules;
+
+// The whole-session call, for the host: the report's length, or 0 where the buffer is too short, which is then untouched.
+#[unsafe(no_mangle)]
+pub extern "C" fn cusphewa_report(session: &[u8], report: &mut [u8]) -> usize
+    ensures report_after { record { size = result; buffer = report.new } ≡ rules.report_call session.now report.old }
+    ensures demand3 { SessionDemand3 session.now }
+    ensures neighbours { SessionNeighbours session.now }
+    ensures changes { SessionChanges session.now }
+    ensures eight { NeverEight session.now }
+    ensures marks { AlwaysAddsMarks }
+    ensures fits { result ≤ length report.old }
+    ensures only_12 { result ≡ 0 → length report.old < min_buffer }
+{
+    reports::cusphewa_report(session, report)
+}
