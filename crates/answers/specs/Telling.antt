@@ -1,5 +1,5 @@
 -- The pass's loop: at offset p of session b, with the answers of the commands before it at the front of the list.
-use Rattle.std.specs.Prelude.{ℕ, ◌+◌, ◌*◌, ◌≤◌, ◌≡◌, List, ◌++◌, map, length, drop}
+use Rattle.std.specs.Prelude.{ℕ, ◌+◌, ◌*◌, ◌≤◌, ◌≡◌, List, ◌++◌, map, length, drop, Option}
 use Rattle.rules.specs.Sizes.{max_commands}
 use Rattle.rules.specs.Bytes.{read_from}
 use Rattle.rules.specs.State.{State}
@@ -8,9 +8,10 @@ use Rattle.rules.specs.Answers.{replies, session_replies}
 use Rattle.text.specs.Wrote.{Wrote}
 use Rattle.state.specs.Slices.{Slices}
 use Rattle.state.specs.View.{shown}
+use Rattle.state.specs.declared.Answer.{Answer}
 use Rattle.tally.specs.declared.Tally.{Tally}
 use Rattle.tally.specs.Figures.{figures}
-use Rattle.session.specs.declared.Reply.{Reply}
+use Rattle.session.specs.Meaning.{reply_in}
 use Rattle.session.specs.Looping.{Looping}
 use Rattle.codes.specs.Codes.{answer_code}
 use Rattle.codes.specs.Decoding.{answer_of}
@@ -30,9 +31,10 @@ pub record Listed (b : List ℕ) (m : ℕ) (before : List ℕ) (n : ℕ) (after 
 abbrev pub rest : List ℕ → State → (p : ℕ) → List calls.Reply
 rest b s p = replies s (read_from 0 p (drop p b)).steps (read_from 0 p (drop p b)).stop
 
-pub record Telling (b : List ℕ) (m : ℕ) (x : Slices) (tally : Tally) (p : ℕ) (before after : List ℕ) (count : ℕ) : Type 0 where
-  pub last : Reply  -- the last command's answer
-  pub looping : Looping b m x tally last p
+pub record Telling (b : List ℕ) (m : ℕ) (x : Slices) (p : ℕ) (before after : List ℕ) (count : ℕ) : Type 0 where
+  pub tally : Tally  -- what a run would have counted: no answer depends on it
+  pub last : Option Answer
+  pub looping : Looping b m x tally (reply_in last) p
   pub done : List calls.Reply
   pub listed : Numbered before 0 done count count after
   pub same : done ++ rest b (shown m x (figures tally)) p ≡ session_replies b

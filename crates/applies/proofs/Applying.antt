@@ -1,6 +1,6 @@
 -- APPLY's tests, and what its two loops leave: its rule's effect.
 use Prim.Native.Nat.{ℕ, ◌+◌, ◌≤◌, ◌<◌}
-use mathlib.Core.Path.{◌≡◌, refl, sym, ap, ◌∙◌, fun_ext}
+use mathlib.Core.Path.{◌≡◌, refl, ap, ◌∙◌, fun_ext}
 use mathlib.Core.Bool.{Bool, true, false, not, ◌&&◌, cond, and_comm, and-true, and-false}
 use mathlib.Core.Logic.{◌≢◌}
 use mathlib.Core.List.{List, []}
@@ -9,6 +9,7 @@ use lib.ListN.{get_or}
 use lib.Dec.{eqb}
 use borrow.Author.Tests.{eq-eqb, ne_eqb, lt-ltb, le-leb, lt-leb}
 use Rattle.rules.specs.Bytes.{Header, Apply}
+use Rattle.rules.specs.Counter.{AddsMarks}
 use Rattle.rules.specs.Table.{any}
 use Rattle.rules.specs.State.{Sheet, State, is_committed}
 use Rattle.rules.specs.Steps.{mem, without, receives, apply_save}
@@ -17,11 +18,16 @@ use Rattle.rules.proofs.Places.{entries, entries_cong, entries_without}
 use Rattle.rules.proofs.Counter.{adds_marks}
 use Rattle.sets.specs.Bit.{in_row}
 use Rattle.sets.proofs.Bits.{bit_none}
-use Rattle.state.specs.Slices.{slices}
-use Rattle.state.specs.View.{out_of_phase, part, in_set, owner_in, placed, place_in, order_in, queued, shown, no_tally, advanced, COPIED, WRITTEN, CLAIM, CLAIM_X, HELD, OWNED, PHASE, NODES}
+use Rattle.state.specs.Slices.{Slices, slices}
+use Rattle.state.specs.View.{out_of_phase, part, in_set, owner_in, placed, place_in, order_in, queued, shown, no_tally, COPIED, WRITTEN, CLAIM, CLAIM_X, HELD, OWNED, PHASE, NODES}
 use Rattle.state.specs.Fit.{Ready}
-use Rattle.state.specs.Lent.{applying, Moves, Keeps}
-use Rattle.state.specs.declared.Answer.TheVariants.{Accepted, Refused}
+use Rattle.state.specs.Lent.{applying}
+use Rattle.state.proofs.Lending.{Moves, Keeps}
+use Rattle.std.specs.Prelude.{Ok, Err}
+use Rattle.refusals.specs.Numbers.{number_of}
+use Rattle.refusals.specs.declared.Refusal.{Refusal}
+use Rattle.refusals.specs.declared.Refusal.TheVariants.{NoEntry}
+use Rattle.state.specs.declared.Answer.TheVariants.{Accepted}
 use Rattle.state.proofs.Codes.{committed_code, written_code}
 use Rattle.state.proofs.Keeping.{Ahead, placed_same, place_same, entries_ahead, entries_taken, entries_sets, entries_owner}
 use Rattle.state.proofs.Known.{owner_row, held_row}
@@ -34,21 +40,19 @@ use Rattle.leaving.specs.Left.{Left}
 use Rattle.leaving.proofs.Stands.{left, row_left, kept_left}
 use Rattle.storing.specs.Carry.{sheet_in, Received}
 use Rattle.storing.proofs.Carry.{received_none, received_same}
-use Rattle.applies.specs.Counts.{Counts}
-
--- a refused command does not count among the accepted
-pub not_accepted : (r : ℕ) → Refused r ≡ Accepted → ⊥
-not_accepted r e = let z : ◌≡◌ {A = ℕ} 0 1 = ap (λ a. (advanced no_tally a).accepted) e in omega arith
 
 -- what an accepted APPLY ensures
 abbrev Done : (m n t : ℕ) (b s q value w s' q' w' : List ℕ) → Type 0
 Done m n t b s q value w s' q' w' =
-    Moves m (applying b s q value w) (Apply n t) (applying b s' q' value w') Accepted
-    × (Keeps m (applying b s q value w) (applying b s' q' value w') × Counts m (applying b s q value w) n t w' Accepted)
+    Moves m (applying b s q value w) (Apply n t) (applying b s' q' value w') (Ok Accepted)
+    × (Keeps m (applying b s q value w) (applying b s' q' value w') × ((x : Slices) → AddsMarks (shown m (applying b s q value w x) no_tally) n t (part m m w')))
 
 -- ---- The rules' tests by their numbers and sets
 
-module _ {m : ℕ} {b s q : List ℕ} (ready : Ready m b s q) (n t : ℕ) (ln : n < get_or b NODES 0) (t32 : t < 32) where
+module _ {m : ℕ} {b s q : List ℕ} (ready : Ready m b s q) (n : ℕ) {t i : ℕ} (ln : n < get_or b NODES 0) (row : (i ≡ t) × (t < 32)) where
+  t32 : t < 32
+  t32 = row.1
+
   pub node8 : n < 8
   node8 = let z : get_or b NODES 0 ≤ 8 = ready.known.nodes8 in omega arith
 
@@ -60,15 +64,21 @@ module _ {m : ℕ} {b s q : List ℕ} (ready : Ready m b s q) (n t : ℕ) (ln : 
       (λ k h. rw (owner_row ready.kept h n node8, mem_entries (order_in b) (place_in q) (queued m q k) (placed q) (ready.kept.queues.listed t k h), held_row ready.kept h t32)
       (and_comm (in_row s (OWNED + n) k) (in_row s (HELD + t) k)))
 
-  module _ {p : ℕ} (read : p ≡ get_or b (PHASE + t) 0) (value w : List ℕ) where
-    phase_code : part PHASE 32 b t ≡ p
-    phase_code = part_in PHASE 32 b t t32 ∙ sym read
+  module _ (value w : List ℕ) where
+    abbrev p : ℕ
+    p = get_or b (PHASE + i) 0
 
-    pub apply_out : p < 4 → {r : ℕ} → r ≡ out_of_phase p → Moves m (applying b s q value w) (Apply n t) (applying b s q value w) (Refused r)
+    phase_code : part PHASE 32 b t ≡ p
+    phase_code = rw row.0 (part_in PHASE 32 b t t32)
+
+    pub apply_out : p < 4 → {r : Refusal} → number_of r ≡ out_of_phase p → Moves m (applying b s q value w) (Apply n t) (applying b s q value w) (Err r)
     apply_out l out x = refused (λ tally. rw (lt-ltb n (get_or b NODES 0) ln, lt-ltb t 32 t32, phase_code, over_tests _ p, lt-leb 4 p l, out))
 
-    module _ (over : 4 ≤ p) {h : Bool} (eh : h ≡ any m (common s (HELD + t) (OWNED + n))) where
-      pub apply_11 : h ≡ false → Moves m (applying b s q value w) (Apply n t) (applying b s q value w) (Refused 11)
+    module _ (over : 4 ≤ p) {h : Bool} (found : h ≡ any m (common s (HELD + i) (OWNED + n))) where
+      eh : h ≡ any m (common s (HELD + t) (OWNED + n))
+      eh = rw row.0 at found
+
+      pub apply_11 : h ≡ false → Moves m (applying b s q value w) (Apply n t) (applying b s q value w) (Err NoEntry)
       apply_11 e x = refused (λ tally. rw (lt-ltb n (get_or b NODES 0) ln, lt-ltb t 32 t32, phase_code, over_tests _ p, le-leb 4 p over, has_code, ← eh, e))
 
       -- ---- What is left
@@ -134,7 +144,7 @@ module _ {m : ℕ} {b s q : List ℕ} (ready : Ready m b s q) (n t : ℕ) (ln : 
             (λ l. rw (← gets k l, flat_in m value t k l) (got.sheet k l))
             (λ l. rw (gets_past k l, part_past 0 m w' k l, part_past m m w' k l, part_past 0 m w k l, part_past m m w k l)))
 
-        apply_steps : Moves m (applying b s q value w) (Apply n t) (applying b s' q' value w') Accepted
+        apply_steps : Moves m (applying b s q value w) (Apply n t) (applying b s' q' value w') (Ok Accepted)
         apply_steps x = accepted
             (λ tally. rw (lt-ltb n (get_or b NODES 0) ln, lt-ltb t 32 t32, phase_code, over_tests _ p, le-leb 4 p over, has_code, ← eh, has))
             (λ tally. same_state
@@ -156,18 +166,21 @@ module _ {m : ℕ} {b s q : List ℕ} (ready : Ready m b s q) (n t : ℕ) (ln : 
         apply_keeps : Keeps m (applying b s q value w) (applying b s' q' value w')
         apply_keeps x f = record { kept = kept_left g t32 f.kept; value = f.value; seen = f.seen; sheets = rw got.long f.sheets }
 
-        apply_counts : Counts m (applying b s q value w) n t w' Accepted
-        apply_counts e = record {
-          sum = ap {B = ℕ → ℕ} (λ (f : ℕ → Sheet) (k : ℕ). (f k).wct) sheet_code ∙ (adds_marks before n t).sum;
-          exact = (adds_marks before n t).exact;
+        apply_counts : (x : Slices) → AddsMarks (shown m (applying b s q value w x) no_tally) n t (part m m w')
+        apply_counts x = let all = adds_marks (shown m (applying b s q value w x) no_tally) n t in record {
+          sum = ap {B = ℕ → ℕ} (λ (f : ℕ → Sheet) (k : ℕ). (f k).wct) sheet_code ∙ all.sum;
+          exact = all.exact;
         }
 
         all_done : Done m n t b s q value w s' q' w'
         all_done = (apply_steps, (apply_keeps, apply_counts))
 
-      module _ (has : h ≡ true) {s' q' : List ℕ} (g : Left m t (common s (HELD + t) (OWNED + n)) s q s' q') where
-        pub done_committed : p ≡ 4 → {w' : List ℕ} → Received m t value (common s' (OWNED + n) (WRITTEN + t)) w w' → Done m n t b s q value w s' q' w'
-        done_committed e r = all_done has g (received_same r (λ k l. rw (eq-eqb p 4 e)))
+      module _ (has : h ≡ true) {s' q' : List ℕ} (gone : Left m i (common s (HELD + i) (OWNED + n)) s q s' q') where
+        g : Left m t (common s (HELD + t) (OWNED + n)) s q s' q'
+        g = rw row.0 at gone
+
+        pub done_committed : p ≡ 4 → {w' : List ℕ} → Received m i value (common s' (OWNED + n) (WRITTEN + i)) w w' → Done m n t b s q value w s' q' w'
+        done_committed e got = let r = rw row.0 at got in all_done has g (received_same r (λ k l. rw (eq-eqb p 4 e)))
 
         pub done_dropped : p ≢ 4 → Done m n t b s q value w s' q' w
         done_dropped d = all_done has g (received_none w (λ k l. rw (ne_eqb p 4 d)))

@@ -6,10 +6,11 @@ ghost use Rattle.rules.specs.Bytes.{Apply};
 ghost use Rattle.rules.specs.Table.{any};
 ghost use Rattle.sets.specs.Bit.{in_row, stride, blocks};
 ghost use Rattle.state.specs.View.{rows, HELD, OWNED};
-ghost use Rattle.state.specs.Fit.{Ends, Table, Ready, Rising};
-ghost use Rattle.state.specs.Lent.{applying, Moves, Keeps};
+ghost use Rattle.state.specs.Fit.{Ends, Table, ReadyIn, Rising};
+ghost use Rattle.state.specs.Lent.{applying, Only, Moves, Keeps};
 ghost use Rattle.applies.specs.Counts.{Counts};
 
+use refusals::Refusal;
 use state::{Answer, COMMITTED, Session};
 
 // Save t has an entry at node n.
@@ -17,59 +18,43 @@ fn has_entry(s: &[u64], m: usize, n: usize, t: usize) -> bool
     requires { (stride * blocks m + rows ≤ length s.now + stride) × (m < 65536) × (n < 8) × (t < 32) × Ends m s.now }
     ensures { result ≡ any m (λ k. in_row s.now (HELD + t) k && in_row s.now (OWNED + n) k) }
 {
-    let all = state::blocks(m);
-    let mut j: usize = 0;
-    while j < all {
-        let met = sets::meet(
-            state::word(s, Session::HELD + t, j),
-            state::word(s, Session::OWNED + n, j),
-        );
-        if met {
+    for j in 0..state::blocks(m) {
+        let held = state::word(s, Session::HELD + t, j);
+        if sets::meet(held, state::word(s, Session::OWNED + n, j)) {
             return true;
         }
-        j += 1;
     }
     false
 }
 
 // Node n carries out save t's outcome, and t's entries there go.
-pub fn apply(
-    b: &[u8],
-    s: &mut [u64],
-    q: &mut [u64],
-    value: &[u32],
-    w: &mut [u32],
-    m: usize,
-    n: u8,
-    t: u8,
-) -> Answer
-    requires { Ready m b.now s.old q.old × Table 32 m value.now × Table 2 m w.old × Rising m w.old }
-    ensures moves { Moves m (applying b.now s.old q.old value.now w.old) (Apply n t)
-        (applying b.now s.new q.new value.now w.new) result }
-    ensures kept { Keeps m (applying b.now s.old q.old value.now w.old)
-        (applying b.now s.new q.new value.now w.new) }
-    ensures marks { Counts m (applying b.now s.old q.old value.now w.old) n t w.new result }
+pub fn apply(x: &mut Session, n: u8, t: u8) -> Result<Answer, Refusal>
+    requires { ReadyIn x.old × Table 32 x.old.m x.old.value.now × Table 2 x.old.m x.old.sheets.now × Rising x.old.m x.old.sheets.now }
+    ensures moves { Moves x.old (Apply n t) x.new result }
+    ensures kept { Keeps x.old x.new }
+    ensures marks { Counts x.old n t x.new result }
+    ensures only { Only (applying x.old.bytes.now x.new.sets.now x.new.queues.now x.old.value.now x.new.sheets.now) x.old x.new }
 {
-    if b[Session::NODE_COUNT] <= n {
-        return Answer::Refused(4);
+    if x.bytes[Session::NODE_COUNT] <= n {
+        return Err(Refusal::OutOfRange);
     }
-    if Session::SAVE_NUMBERS <= t {
-        return Answer::Refused(4);
-    }
-    let ni = n as usize;
-    let ti = t as usize;
-    let p = b[Session::PHASE + ti];
+    let i = state::save_index(t)?;
+    let n = n as usize;
+    let p = x.bytes[Session::PHASE + i];
     if p < COMMITTED {
-        let r = state::out_of_phase(p);
-        return Answer::Refused(r);
+        return Err(state::out_of_phase(p));
     }
-    let h = has_entry(s, m, ni, ti);
-    if !h {
-        return Answer::Refused(11);
+    let m = x.m;
+    let sets = &mut *x.sets;
+    if !has_entry(sets, m, n, i) {
+        return Err(Refusal::NoEntry);
     }
-    leaving::leave(s, q, m, ti, Session::OWNED + ni);
+    leaving::leave(x.sets, x.queues, m, i, Session::OWNED + n);
     if p == COMMITTED {
-        storing::carry_out(s, value, w, m, ni, ti);
+        let sets = &mut *x.sets;
+        let value = &mut *x.value;
+        let sheets = &mut *x.sheets;
+        storing::carry_out(sets, value, sheets, m, n, i);
     }
-    Answer::Accepted
+    Ok(Answer::Accepted)
 }

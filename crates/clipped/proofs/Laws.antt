@@ -1,17 +1,16 @@
 -- Bytes that do not fit, and texts that are made elsewhere first.
 use mathlib.Core.Path.{◌≡◌, refl, sym, ap, ◌∙◌}
-use mathlib.Core.Bool.{true, false, ◌&&◌}
 use mathlib.Core.List.{List, [], ◌∷◌, ◌++◌}
-use Prim.Native.Nat.{ℕ, suc, ◌+◌, ◌-◌, ◌≤◌, ◌<◌}
+use Prim.Native.Nat.{ℕ, suc, ◌+◌, ◌≤◌, ◌<◌}
 use native.Mathlib.Numerals.{add-one}
 use native.Mathlib.Omega.{arith}
-use borrow.Author.Tests.{ltb-true, ltb-false}
-use lib.Dec.{ltb}
 use lib.ListN.{length, get_or, set, take, drop, length-drop}
-use lib.Seq.{sets, set_out, length-take-le, take-suc, take-add, take-append_seam}
-use Rattle.rules.proofs.Table.{bool, and_l, and_r}
+use lib.Seq.{sets, set_out, take-suc, take-append_seam}
+use Rattle.std.proofs.lemmas.List.{take-append-drop}
 use Rattle.rules.specs.Report.{Filled}
 use Rattle.text.specs.Wrote.{Wrote}
+use Rattle.text.specs.declared.Writer.{Writer}
+use Rattle.text.specs.Writes.{Writes}
 use Rattle.text.proofs.Writing.{wrote_as, wrote_next, wrote_front}
 
 sets_past : (l : List ℕ) (a : ℕ) (x : List ℕ) → length l ≤ a → sets l a x ≡ l
@@ -25,34 +24,25 @@ past_end {l} {x} {a} {b} e h = record { ends = e; bytes = sym (sets_past l a x h
 one_more : (t : List ℕ) (i : ℕ) → i < length t → take i t ++ get_or t i 0 ∷ [] ≡ take (i + 1) t
 one_more t i h = rw (add-one i) (sym (take-suc t i 0 h))
 
--- ---- The first n bytes of a text from a on, when i of them are written
+-- ---- The bytes of a text from a on, when i of them are written
 
-module _ (a n i : ℕ) where
-  pub goes_on : (m : List ℕ) → ltb i n && ltb (a + i) (length m) ≡ true → (i < n) × (a + i < length m)
-  goes_on m e = (ltb-true i n (and_l (ltb i n) _ e), ltb-true (a + i) (length m) (and_r (ltb i n) _ e))
-
+module _ (a i : ℕ) where
   pub one_stored : {l m : List ℕ} (t : List ℕ) → i < length t → Wrote l a (take i t) i (a + i) m → Wrote l a (take (i + 1) t) (i + 1) (a + (i + 1)) (set m (a + i) (get_or t i 0))
   one_stored {l} {m} t h w =
       let q : Wrote m (a + i) (get_or t i 0 ∷ []) 1 (a + (i + 1)) (set m (a + i) (get_or t i 0)) = record { ends = omega arith; bytes = refl; short = omega arith } in
       wrote_next (one_more t i h) (omega arith) w q
 
+  rest : {m : List ℕ} (x : List ℕ) → (0 < length x → length m ≤ a + i) → Wrote m (a + i) x (length x) (a + i + length x) m
+  rest [] h = record { ends = refl; bytes = refl; short = omega arith }
+  rest (b ∷ x) h = past_end refl (h (omega arith))
+
   -- there are no more, or no room is left
-  pub cut_off : {l m : List ℕ} (t : List ℕ) → i ≤ n → n ≤ length t → ltb i n && ltb (a + i) (length m) ≡ false → Wrote l a (take i t) i (a + i) m → Wrote l a (take n t) n (a + n) m
-  cut_off {l} {m} t h k e w = bool (ltb i n) full all where
-    rest : List ℕ
-    rest = take (n - i) (drop i t)
-
-    full : ltb i n ≡ true → Wrote l a (take n t) n (a + n) m
-    full f =
-        let d : length rest ≡ n - i = length-take-le (n - i) (drop i t) (omega (arith, length-drop i t)) in
-        let s : i + (n - i) ≡ n = omega arith in
-        let r : Wrote m (a + i) rest (length rest) (a + n) m = past_end (omega arith) (ltb-false (a + i) (length m) (rw f at e)) in
-        wrote_next (rw s at (sym (take-add i (n - i) t))) (omega arith) w r
-
-    all : ltb i n ≡ false → Wrote l a (take n t) n (a + n) m
-    all f =
-        let s : i ≡ n = omega (arith, ltb-false i n f) in
-        rw s at w
+  pub cut_off : {l m : List ℕ} (t : List ℕ) → i ≤ length t → (i < length t → length m ≤ a + i) → Wrote l a (take i t) i (a + i) m → Wrote l a t (length t) (a + length t) m
+  cut_off {l} {m} t k h w =
+      let d = length-drop i t in
+      let s : a + i + length (drop i t) ≡ a + length t = omega arith in
+      let r : Wrote m (a + i) (drop i t) (length (drop i t)) (a + length t) m = rw s at (rest (drop i t) (λ z. h (omega arith))) in
+      wrote_next (take-append-drop i t) (omega arith) w r
 
 -- ---- Texts that are made elsewhere first
 
@@ -62,10 +52,16 @@ front_of {l} {m} {x} {e} {u} w h =
     let f = wrote_front w h in
     ap (λ (q : Filled). take q.size q.buffer) f ∙ take-append_seam x _
 
+pub writes_front : {w v : Writer} {x : List ℕ} {u : ℕ} → Writes w v x u → w.at ≡ 0 → u ≤ length w.buf.now → take v.at v.buf.now ≡ x
+writes_front {w} {v} {x} {u} p z h = front_of (rw z at p.wrote) h
+
 -- and copied from there it is the same text
-pub copied : {l m x r s : List ℕ} {e u a z : ℕ} → Wrote l 0 x u e m → u ≤ length l → Wrote r a (take e m) e z s → Wrote r a x u z s
-copied w h p = wrote_as (front_of w h) w.short p
+pub copied : {l m r s x y : List ℕ} {e u a z : ℕ} → Wrote l 0 x u e m → u ≤ length l → Wrote r a y (length y) z s → y ≡ take e m → Wrote r a x u z s
+copied w h p e = wrote_as (e ∙ front_of w h) w.short p
 
 -- the same text under another name, in more room
 pub wrote_within : {l m x y : List ℕ} {a b u v : ℕ} → x ≡ y → u ≤ v → Wrote l a x u b m → Wrote l a y v b m
 wrote_within {l} {m} {x} {y} {a} {b} {u} {v} e h p = wrote_as e (omega (arith, ap length e, p.short)) p
+
+pub writes_within : {w z : Writer} {x y : List ℕ} {u v : ℕ} → x ≡ y → u ≤ v → Writes w z x u → Writes w z y v
+writes_within e h p = record { same = p.same; long = p.long; wrote = wrote_within e h p.wrote }

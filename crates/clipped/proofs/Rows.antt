@@ -1,30 +1,24 @@
 -- Texts one after the other, as a loop writes them: one more for each number, in room for as many.
 use mathlib.Core.Path.{◌≡◌, refl, ap, ◌∙◌}
 use mathlib.Core.List.{List, [], ◌∷◌, ◌++◌, append-nil, append_assoc}
-use Prim.Native.Nat.{ℕ, suc, ◌+◌, ◌*◌, ◌≤◌, ◌<◌}
+use Prim.Native.Nat.{ℕ, ◌+◌, ◌*◌}
 use native.Mathlib.Numerals.{add-one}
-use native.Mathlib.Nat.{mul-le-mul_right}
 use native.Mathlib.Omega.{arith}
 use Rattle.rules.specs.Showing.{rising, each}
-use Rattle.text.specs.Wrote.{Wrote}
-use Rattle.text.proofs.Writing.{wrote_none, wrote_as, wrote_next}
+use Rattle.text.specs.declared.Writer.{Writer}
+use Rattle.text.specs.Writes.{Writes}
+use Rattle.text.proofs.Writing.{writes_none, writes_as, writes_next}
 
 -- ---- For the numbers below a bound
 
 module _ (f : ℕ → List ℕ) where
-  pub rising_none : {l : List ℕ} {a : ℕ} (r : ℕ) → Wrote l a (rising f 0) (0 * r) a l
+  pub rising_none : (w : Writer) (r : ℕ) → Writes w w (rising f 0) (0 * r)
   unfolding rising
-  rising_none {l} {a} r = wrote_as refl (omega arith) (wrote_none l a)
+  rising_none w r = writes_as refl (omega arith) (writes_none w)
 
-  pub rising_more : {l m k : List ℕ} {a b c : ℕ} (r i : ℕ) → Wrote l a (rising f i) (i * r) b m → Wrote m b (f i) r c k → Wrote l a (rising f (i + 1)) ((i + 1) * r) c k
+  pub rising_more : {w v z : Writer} (r i : ℕ) → Writes w v (rising f i) (i * r) → Writes v z (f i) r → Writes w z (rising f (i + 1)) ((i + 1) * r)
   unfolding rising
-  rising_more r i p q = wrote_next (rw (add-one i)) (omega arith) p q
-
--- there is room for one more
-pub row_room : (i n r : ℕ) → i < n → i * r + r ≤ n * r
-row_room i n r h =
-    let z : suc i * r ≤ n * r = mul-le-mul_right r (omega arith) in
-    omega arith
+  rising_more r i p q = writes_next (rw (add-one i)) p q (omega arith)
 
 -- ---- For the numbers of a list
 

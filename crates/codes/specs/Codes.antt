@@ -1,15 +1,13 @@
 -- Answers as numbers, for the host.
-use Rattle.std.specs.Prelude.{ℕ, ◌+◌, ◌*◌, ◌≤◌, min, List, length}
+use Rattle.std.specs.Prelude.{ℕ, ◌+◌, ◌*◌, ◌≤◌, min, List, length, Option, Result, Ok, Err}
 use Rattle.rules.specs.Sizes.{max_session, max_state}
 use Rattle.rules.specs.Steps.{Rule, x_granted, x_waiting, counter_behind, Verdict, valid, invalid, accepted, content_is, took, commits, second_run}
 use Rattle.rules.specs.Calls as calls
 use Rattle.rules.specs.Writing as lists
 use Rattle.rules.specs.Calls.{no_command, answers, refusal}
-use Rattle.session.specs.Meaning.{NearVerdict}
+use Rattle.refusals.specs.declared.Refused.{Refused}
+use Rattle.session.specs.Meaning.{NearLast}
 use Rattle.session.specs.declared.Reply.{Reply}
-use Rattle.session.specs.declared.Reply.TheVariants as reply
-use Rattle.codes.specs.declared.Placed.{Placed}
-use Rattle.codes.specs.declared.Placed.TheVariants.{Whole, TooShort}
 
 -- kind * 2^48 + value * 2^8 + number
 abbrev pub coded : (kind value number : ℕ) → ℕ
@@ -35,14 +33,9 @@ answer_code (answers second_run) = coded 6 0 0
 answer_code (refusal p n) = coded 7 p n
 
 -- a refusal's offset is one of a session, a cause's sheet near
-abbrev pub NearReply : Reply → Type 0
-NearReply reply.NoCommand = Unit {0}
-NearReply reply.Accepted = Unit {0}
-NearReply (reply.Content v) = Unit {0}
-NearReply (reply.Took t v) = NearVerdict v
-NearReply reply.Commits = Unit {0}
-NearReply reply.SecondRun = Unit {0}
-NearReply (reply.Refused p c) = p ≤ max_session
+abbrev pub NearReply : Result (Option Reply) Refused → Type 0
+NearReply (Ok r) = NearLast r
+NearReply (Err r) = r.place ≤ max_session
 
 -- ---- Calls that write into a room
 
@@ -63,15 +56,11 @@ pub record Told : Type 0 where
 abbrev pub told_call : lists.Call → Told
 told_call c = record { code = outcome_code c.outcome; room = c.room }
 
-abbrev pub outcome_of : Placed → lists.Outcome
-outcome_of (Whole n) = lists.wrote n
-outcome_of (TooShort n) = lists.refuse_with (lists.at n 15)
-
 -- bytes or numbers at the front of a room, or 15 where they do not fit
 abbrev pub fitted : (new room : List ℕ) → lists.Call
 fitted new room = lists.put (length new) (lists.wrote (length new)) new room
 
--- no list and no state's text is longer
-abbrev pub Small : Placed → Type 0
-Small (Whole n) = n ≤ max_state
-Small (TooShort n) = n ≤ max_state
+-- no list and no state's text is longer, and none needs more room
+abbrev pub Small : Result ℕ Refused → Type 0
+Small (Ok n) = n ≤ max_state
+Small (Err r) = r.place ≤ max_state

@@ -4,13 +4,19 @@
 ghost use Rattle.std.specs.Prelude.{◌≡◌, ◌<◌};
 ghost use Rattle.rules.specs.Steps.{took};
 ghost use Rattle.rules.specs.Calls.{answers};
-ghost use Rattle.session.specs.Meaning.{reply_of, NearVerdict};
-ghost use Rattle.state.specs.View.{rule_of, verdict_of};
-ghost use Rattle.codes.specs.Codes.{coded, rule_code, verdict_code, answer_code, NearReply, outcome_code, outcome_of, Small};
-ghost use Rattle.codes.specs.Decoding.{answer_of, outcome_in};
+ghost use Rattle.rules.specs.Writing.{refuse_with};
+ghost use Rattle.wire.specs.Refusing.{refused_at, outcome_of};
+ghost use Rattle.session.specs.Meaning.{value_of, reply_of, NearVerdict, Near};
+ghost use Rattle.state.specs.View.{verdict_of};
+ghost use Rattle.codes.specs.Codes.{coded, verdict_code, answer_code, NearReply, outcome_code, Small};
+ghost use Rattle.codes.specs.Decoding.{answer_of, outcome_in, as_told};
 
+use refusals::Refused;
 use session::Reply;
-use state::{Rule, Verdict};
+use state::Verdict;
+
+// The last place that a code holds; it stands for all above.
+const LAST_PLACE: usize = 4294967295;
 
 // A kind, a value and a number in one.
 pub fn code(kind: u64, value: u64, number: u8) -> u64
@@ -18,17 +24,6 @@ pub fn code(kind: u64, value: u64, number: u8) -> u64
     ensures { result ≡ coded kind value number }
 {
     kind * 281474976710656 + value * 256 + number as u64
-}
-
-// The number of a rule.
-fn rule_number(rule: Rule) -> u8
-    ensures { result ≡ rule_code (rule_of rule) }
-{
-    match rule {
-        Rule::XGranted => 1,
-        Rule::XWaiting => 2,
-        Rule::CounterBehind => 3,
-    }
 }
 
 // A TAKE's answer: the save, and where it was found invalid the sheet and the rule.
@@ -42,43 +37,57 @@ fn take_code(t: u8, v: Verdict) -> u64
         Verdict::Invalid(cause) => {
             let k = cause.sheet;
             let rule = cause.rule;
-            code(4, k as u64 * 65536 + t as u64, rule_number(rule))
+            code(4, k as u64 * 65536 + t as u64, rule as u8)
         }
     }
 }
 
-// The answer of a call.
-pub fn reply_code(r: Reply) -> u64
-    requires { NearReply r }
-    ensures value { result ≡ answer_code (reply_of r) }
-    ensures decoded { answer_of result ≡ reply_of r }
+// A refusal with its place.
+pub fn refusal_code(r: Refused) -> u64
+    ensures value { result ≡ outcome_code (refuse_with (refused_at r)) }
+    ensures decoded { outcome_in result ≡ as_told (refuse_with (refused_at r)) }
+{
+    code(7, r.place.min(LAST_PLACE) as u64, u8::from(r.why))
+}
+
+// An accepted command's answer.
+fn accepted_code(r: Reply) -> u64
+    requires { Near r }
+    ensures value { result ≡ answer_code (answers (value_of r)) }
+    ensures decoded { answer_of result ≡ answers (value_of r) }
 {
     match r {
-        Reply::NoCommand => code(0, 0, 0),
         Reply::Accepted => code(1, 0, 0),
         Reply::Content(v) => code(2, v as u64, 0),
         Reply::Took(t, v) => take_code(t, v),
         Reply::Commits => code(5, 0, 0),
         Reply::SecondRun => code(6, 0, 0),
-        Reply::Refused(p, n) => code(7, p as u64, n),
     }
 }
 
-// How many bytes or numbers were written into a room, or how many it must hold, where it is too short.
-#[derive(Clone, Copy)]
-pub enum Placed {
-    Whole(usize),
-    TooShort(usize),
+// The answer of a call on a session: the last command's, if there was one, or the refusal.
+pub fn reply_code(r: Result<Option<Reply>, Refused>) -> u64
+    requires { NearReply r }
+    ensures value { result ≡ answer_code (reply_of r) }
+    ensures decoded { answer_of result ≡ reply_of r }
+{
+    match r {
+        Ok(last) => match last {
+            Some(reply) => accepted_code(reply),
+            None => code(0, 0, 0),
+        },
+        Err(refused) => refusal_code(refused),
+    }
 }
 
-// The answer of a call that writes into a room.
-pub fn placed_code(p: Placed) -> u64
-    requires { Small p }
-    ensures value { result ≡ outcome_code (outcome_of p) }
-    ensures decoded { outcome_in result ≡ outcome_of p }
+// The answer of a call that writes into a room: how many bytes or numbers were written, or the refusal.
+pub fn placed_code(r: Result<usize, Refused>) -> u64
+    requires { Small r }
+    ensures value { result ≡ outcome_code (outcome_of r) }
+    ensures decoded { outcome_in result ≡ outcome_of r }
 {
-    match p {
-        Placed::Whole(n) => code(8, n as u64, 0),
-        Placed::TooShort(n) => code(7, n as u64, 15),
+    match r {
+        Ok(n) => code(8, n as u64, 0),
+        Err(needs) => refusal_code(needs),
     }
 }

@@ -13,9 +13,14 @@ use Rattle.rules.specs.State.{Sheet, Mark, absent, copied, written, Tally, State
 use Rattle.rules.specs.Steps.{at_front, x_on, Checked, pass, refuse, check, read_mark, read_copy}
 use Rattle.rules.proofs.Table.{bool, clash}
 use Rattle.sets.specs.Bit.{in_row}
-use Rattle.state.specs.declared.Answer.TheVariants.{Content, Accepted, Refused}
+use Rattle.std.specs.Prelude.{Result, Ok, Err}
+use Rattle.refusals.specs.Numbers.{number_of}
+use Rattle.refusals.specs.declared.Refusal.{Refusal}
+use Rattle.refusals.specs.declared.Refusal.TheVariants.{BadHeader, UnknownCommand, CutShort, OutOfRange, WrongPhase, HeldByX, NoCopy, AllTaken, NotGranted, NoEntry, NotBegun, Finished, NoRoom}
+use Rattle.state.specs.declared.Answer.TheVariants.{Content, Accepted}
 use Rattle.state.specs.Slices.{Slices, slices}
 use Rattle.state.specs.View.{as_phase, out_of_phase, mark_of, part, in_set, shown, no_tally, PHASE, COPIED, WRITTEN}
+use Rattle.state.specs.Asked.{InRun}
 use Rattle.state.specs.Fit.{Table}
 use Rattle.state.specs.Lent.{Steps}
 use Rattle.state.proofs.Codes.{second_code}
@@ -25,7 +30,7 @@ use Rattle.state.proofs.Parts.{part_in, flat_in}
 use Rattle.state.proofs.Rows.{set_row}
 use Rattle.state.proofs.Steps.{refused, accepted, same_state}
 use Rattle.state.proofs.Tables.{upd2_by}
-use Rattle.copies.specs.Barred.{barred_by}
+use Rattle.copies.specs.Barred.{barred_by, Barred}
 use Rattle.copies.proofs.Joining.{Joined}
 use Rattle.copies.proofs.Marks.{marks, Within, copies, mark_copied, copied_beside, mark_written, written_beside, copy_made, copy_written}
 
@@ -57,14 +62,27 @@ copied_read m s t k a b e = set_row m s COPIED a k b ∙ sym e
 
 -- ---- The first tests
 
-module _ (m : ℕ) (b : List ℕ) (t k : ℕ) (ht : t < 32) (hk : k < m) {u : Bool} (run : u ≡ (eqb (get_or b (PHASE + t) 0) 1 || eqb (get_or b (PHASE + t) 0) 3)) where
-  pub not_barred : u ≡ true → 0 ≡ barred_by m b t k
-  unfolding barred_by
-  not_barred e = rw (lt-ltb t 32 ht, lt-ltb k m hk, part_in PHASE 32 b t ht, ← run, e)
+-- a refusal has a number
+pub some_number : (r : Refusal) → number_of r ≢ 0
+some_number BadHeader e = omega arith
+some_number UnknownCommand e = omega arith
+some_number CutShort e = omega arith
+some_number OutOfRange e = omega arith
+some_number WrongPhase e = omega arith
+some_number HeldByX e = omega arith
+some_number NoCopy e = omega arith
+some_number AllTaken e = omega arith
+some_number NotGranted e = omega arith
+some_number NoEntry e = omega arith
+some_number NotBegun e = omega arith
+some_number Finished e = omega arith
+some_number NoRoom e = omega arith
 
-  pub barred_out : u ≡ false → {r : ℕ} → r ≡ out_of_phase (get_or b (PHASE + t) 0) → r ≡ barred_by m b t k
-  unfolding barred_by
-  barred_out e o = rw (lt-ltb t 32 ht, lt-ltb k m hk, part_in PHASE 32 b t ht, ← run, e) o
+-- there are such a save and such a sheet: what is left is whether it runs
+pub barred_run : (m : ℕ) (b : List ℕ) (t k : ℕ) {i : ℕ} → (i ≡ t) × (t < 32) → k < m → (r : Result Unit Refusal) → InRun (get_or b (PHASE + i) 0) r → Barred (barred_by m b t k) r
+unfolding barred_by
+barred_run m b t k row l (Ok _) e = let run = rw row.0 at e in rw (lt-ltb t 32 row.1, lt-ltb k m l, part_in PHASE 32 b t row.1, run)
+barred_run m b t k row l (Err r) e = let out = rw row.0 at e in rw (lt-ltb t 32 row.1, lt-ltb k m l, part_in PHASE 32 b t row.1, out.0) out.1
 
 -- a save and a sheet that are not barred are there
 pub in_range : (m : ℕ) (b : List ℕ) (t k : ℕ) → {r : ℕ} → r ≡ barred_by m b t k → r ≡ 0 → (t < 32) × (k < m)
@@ -102,11 +120,11 @@ module _ (m : ℕ) (x : Slices) (t k : ℕ) {r : ℕ} (e : r ≡ barred_by m x.b
       by_cases true false c o z = refl
       by_cases false b c o z = refl
 
-  pub read_barred : r ≢ 0 → Steps S (Read t k) S (Refused r)
-  read_barred n = refused (λ tally. by_number _ ∙ rw (ne_eqb r 0 n))
+  pub read_barred : r ≢ 0 → (tally : Tally) → check (S tally) (Read t k) ≡ refuse r
+  read_barred n tally = by_number _ ∙ rw (ne_eqb r 0 n)
 
-  pub write_barred : (v : ℕ) → r ≢ 0 → Steps S (Write t k v) S (Refused r)
-  write_barred v n = refused (λ tally. by_number _ ∙ rw (ne_eqb r 0 n))
+  pub write_barred : (v : ℕ) → r ≢ 0 → (tally : Tally) → check (S tally) (Write t k v) ≡ refuse r
+  write_barred v n tally = by_number _ ∙ rw (ne_eqb r 0 n)
 
   module _ (z : r ≡ 0) where
     k_in : k < m
@@ -118,7 +136,7 @@ module _ (m : ℕ) (x : Slices) (t k : ℕ) {r : ℕ} (e : r ≡ barred_by m x.b
     -- ---- READ
 
     -- an own copy
-    pub read_own : in_set m COPIED x.sets t k ≡ true → Steps S (Read t k) S (Content (get_or x.value (t * m + k) 0))
+    pub read_own : in_set m COPIED x.sets t k ≡ true → Steps S (Read t k) S (Ok (Content (get_or x.value (t * m + k) 0)))
     read_own c =
         let mark : Mark = marks m x.sets t k in
         let one : has_copy mark ≡ true = some_mark (in_set m COPIED x.sets t k) (in_set m WRITTEN x.sets t k) c in
@@ -143,13 +161,13 @@ module _ (m : ℕ) (x : Slices) (t k : ℕ) {r : ℕ} (e : r ≡ barred_by m x.b
           sides true b = refl
           sides false b = refl
 
-      pub read_6 : (not (eqb p 3) && front) ≡ true → Steps S (Read t k) S (Refused 6)
+      pub read_6 : (not (eqb p 3) && front) ≡ true → Steps S (Read t k) S (Err HeldByX)
       read_6 b = refused (read_last true b)
 
       -- the owner's content and WCT are copied
       pub read_new : (not (eqb p 3) && front) ≡ false → Table 32 m x.value → Table 32 m x.seen → {v c : ℕ} → v ≡ part 0 m x.sheets k → c ≡ part m m x.sheets k
           → {s' : List ℕ} → Joined m (COPIED + t) k x.sets s'
-          → Steps S (Read t k) (shown m (slices x.bytes s' x.queues (set x.value (t * m + k) v) (set x.seen (t * m + k) c) x.sheets)) (Content v)
+          → Steps S (Read t k) (shown m (slices x.bytes s' x.queues (set x.value (t * m + k) v) (set x.seen (t * m + k) c) x.sheets)) (Ok (Content v))
       read_new b lv ls {v} {c} ev ec j =
           accepted
           (read_last false b)
@@ -161,11 +179,11 @@ module _ (m : ℕ) (x : Slices) (t k : ℕ) {r : ℕ} (e : r ≡ barred_by m x.b
     -- ---- WRITE
 
     module _ (v : ℕ) where
-      pub write_7 : Within m x.sets → in_set m COPIED x.sets t k ≡ false → Steps S (Write t k v) S (Refused 7)
+      pub write_7 : Within m x.sets → in_set m COPIED x.sets t k ≡ false → Steps S (Write t k v) S (Err NoCopy)
       write_7 w n = refused (λ tally. by_number _ ∙ rw (z, n, not_written m x.sets t k w n))
 
       pub writes : in_set m COPIED x.sets t k ≡ true → Table 32 m x.value → {s' : List ℕ} → Joined m (WRITTEN + t) k x.sets s'
-          → Steps S (Write t k v) (shown m (slices x.bytes s' x.queues (set x.value (t * m + k) v) x.seen x.sheets)) Accepted
+          → Steps S (Write t k v) (shown m (slices x.bytes s' x.queues (set x.value (t * m + k) v) x.seen x.sheets)) (Ok Accepted)
       writes c lv j =
           accepted
           (λ tally. by_number _ ∙ rw (z, some_mark (in_set m COPIED x.sets t k) (in_set m WRITTEN x.sets t k) c))

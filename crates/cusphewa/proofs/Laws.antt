@@ -1,93 +1,85 @@
 -- The calls' needs, each as one law in plain variables.
 use Prim.Native.Nat.{ℕ, ◌+◌, ◌-◌, ◌*◌, ◌/◌, ◌%◌, ◌^◌, ◌≤◌, ◌<◌}
 use mathlib.Core.Path.{◌≡◌, refl, sym, ap, ◌∙◌}
-use mathlib.Core.List.{List, [], ◌∷◌}
+use mathlib.Core.List.{List}
 use native.Mathlib.Omega.{arith}
-use lib.ListN.{length, take, drop}
-use Rattle.rules.specs.Sizes.{max_session}
-use Rattle.rules.specs.Bytes.{header, reading}
-use Rattle.rules.specs.State.{fresh}
-use Rattle.rules.specs.Steps.{Event, run}
+use lib.ListN.{length, take, drop, length-drop}
+use Rattle.std.specs.Prelude.{Result, Ok, Err, Option, None}
+use Rattle.std.specs.Prelude as std
 use Rattle.rules.specs.Calls as calls
 use Rattle.rules.specs.Causes.{WhyFailed}
 use Rattle.rules.specs.Ordered.{AlwaysOrdered}
 use Rattle.rules.proofs.Causes.{why_failed}
 use Rattle.rules.proofs.Ordered.{ordered}
-use Rattle.rules.proofs.Sessions.{commands_of, final, session_final, stop_final, reply_final, stop_unopened, reply_unopened}
-use Rattle.wire.specs.declared.Opened.TheVariants.{Bad}
-use Rattle.wire.specs.Meaning.{opened}
-use Rattle.wire.proofs.Header.{opens_has}
-use Rattle.wire.proofs.Opening.{Opening, unopened}
-use Rattle.session.specs.declared.Stop.{Stop}
-use Rattle.session.specs.declared.Stop.TheVariants.{End, Refused}
+use Rattle.rules.proofs.Sessions.{stop_final, reply_final, stop_unopened, reply_unopened}
+use Rattle.refusals.specs.declared.Refusal.TheVariants.{BadHeader}
+use Rattle.refusals.specs.declared.Refused.{Refused}
+use Rattle.wire.specs.declared.Header.{Header}
+use Rattle.wire.specs.Meaning.{opened, front_in, shown_in}
+use Rattle.wire.proofs.Front.{rest}
+use Rattle.wire.proofs.Headers.{opens_has}
+use Rattle.wire.proofs.Opening.{opening, unopened}
+use Rattle.wire.proofs.Rest.{shown_few}
 use Rattle.session.specs.declared.Reply.{Reply}
-use Rattle.session.specs.declared.Reply.TheVariants as reply
 use Rattle.session.specs.declared.Ended.{Ended}
-use Rattle.session.specs.Meaning.{stop_of, reply_of, NearLast}
-use Rattle.session.specs.Carried.{Inside, Answered}
-use Rattle.session.proofs.Lines.{inside_less}
+use Rattle.session.specs.Meaning.{stop_at, last_of, reply_of}
+use Rattle.session.specs.Carried.{Answered}
 use Rattle.codes.specs.Codes.{answer_code, NearReply}
 use Rattle.codes.specs.Decoding.{answer_of, part_in}
-use Rattle.cusphewa.specs.Codes.{part_code, Near}
+use Rattle.cusphewa.specs.Codes.{part_code, PartOf}
 
--- ---- Where a run stops
+-- ---- The answer
 
-near_by : (n : ℕ) (s : Stop) → n ≤ max_session → Inside max_session s → Near n s
-near_by n End l w = l
-near_by n (Refused p c k) l w = w
+module _ (b : List ℕ) (h : Header) (e : opened b ≡ std.Some h) (r : Ended) (v : Answered b r) where
+  stops_at : stop_at b r.stop ≡ calls.stop b
+  stops_at = let o = opening b h e in sym (stop_final b o.opened_well ∙ v.stops)
 
--- the last accepted command's answer is no refusal
-last_of_none : (x : calls.Reply) (es : List Event) (p n : ℕ) → (x ≡ calls.refusal p n → ⊥) → calls.last_of x es ≡ calls.refusal p n → ⊥
-last_of_none x [] p n h e = h e
-last_of_none x (y ∷ es) p n h e = last_of_none (calls.answers y.answer) es p n (λ q. let z : ◌≡◌ {A = ℕ} 0 1 = cc in omega arith) e
+  replies : calls.reply b ≡ Rattle.rules.proofs.Sessions.reply_of (stop_at b r.stop) (last_of r.last)
+  replies = let o = opening b h e in reply_final b o.opened_well ∙ rw (v.stops, v.replies)
 
-final_last : (b : List ℕ) (p n : ℕ) → (session_final b).last ≡ calls.refusal p n → ⊥
-unfolding final
-final_last b p n e = last_of_none calls.no_command (run (fresh (header b)) (commands_of (reading b))).events p n (λ q. let z : ◌≡◌ {A = ℕ} 0 1 = cc in omega arith) e
+  pub replies_last : {u : Unit} → r.stop ≡ Ok u → reply_of (Ok r.last) ≡ calls.reply b
+  replies_last q = sym (replies ∙ rw q)
 
-module _ (b : List ℕ) (nodes sheets : ℕ) (o : Opening b nodes sheets) (r : Ended) (v : Answered b r) where
-  pub stop_small : Inside max_session r.stop
-  stop_small = inside_less (length b) max_session r.stop (opens_has b o.opened_well).0.size v.within
+  module _ (x : Refused) (q : r.stop ≡ Err x) where
+    pub replies_refused : reply_of (Err x) ≡ calls.reply b
+    replies_refused = sym (replies ∙ rw q)
 
-  -- ---- The answer and the stop
+    within : x.place < length b
+    within = rw q at v.within
 
-  pub stops_at : stop_of r.stop ≡ calls.stop b
-  stops_at = sym (stop_final b o.opened_well ∙ v.stops)
-
-  replies : calls.reply b ≡ Rattle.rules.proofs.Sessions.reply_of (stop_of r.stop) (reply_of r.last)
-  replies = reply_final b o.opened_well ∙ rw (v.stops, v.replies)
-
-  pub replies_last : r.stop ≡ End → reply_of r.last ≡ calls.reply b
-  replies_last e = sym (replies ∙ rw e)
-
-  pub replies_refused : (p n k : ℕ) → r.stop ≡ Refused p n k → reply_of (reply.Refused p n) ≡ calls.reply b
-  replies_refused p n k e = sym (replies ∙ rw e)
-
-  pub near : Near (length b) r.stop
-  near = near_by (length b) r.stop (opens_has b o.opened_well).0.size stop_small
-
-  pub near_last : NearReply r.last
-  near_last = go r.last r.stop v.near v.replies
-    where
-      go : (x : Reply) (st : Stop) → NearLast x → (session_final b).last ≡ reply_of x → NearReply x
-      go reply.NoCommand st h e = tt
-      go (reply.Accepted) st h e = tt
-      go (reply.Content u) st h e = tt
-      go (reply.Took t u) st h e = h
-      go reply.Commits st h e = tt
-      go reply.SecondRun st h e = tt
-      go (reply.Refused p n) st h e = absurd (final_last b p n e)
+    pub place_near : NearReply (Err x)
+    place_near = let o = opening b h e in omega (arith, within, (opens_has b o.opened_well).0.size)
 
 -- ---- Refusal 1
 
-module _ (b : List ℕ) (e : Bad ≡ opened b) where
-  pub reply_bad : reply_of (reply.Refused 0 1) ≡ calls.reply b
+module _ (b : List ℕ) (e : opened b ≡ None) where
+  pub reply_bad : reply_of (Err (record { place = 0; why = BadHeader })) ≡ calls.reply b
   reply_bad = sym (reply_unopened b (unopened b e))
 
-  pub stop_bad : stop_of (Refused 0 1 0) ≡ calls.stop b
-  stop_bad = sym (stop_unopened b (unopened b e))
-
 -- ---- The part shown
+
+pub part_bad : (b : List ℕ) → opened b ≡ None → PartOf b 0 0
+unfolding calls.part
+part_bad b e = record { part = rw (stop_unopened b (unopened b e)); within = omega arith; near = omega arith }
+
+module _ (b : List ℕ) (h : Header) (e : opened b ≡ std.Some h) (r : Ended) (v : Answered b r) where
+  pub part_end : {u : Unit} → r.stop ≡ Ok u → PartOf b (length b) 0
+  unfolding calls.part
+  part_end q = let o = opening b h e in record { part = rw (← stops_at b h e r v, q); within = omega arith; near = omega (arith, (opens_has b o.opened_well).0.size) }
+
+  pub part_refused : (x : Refused) → r.stop ≡ Err x → {z : ℕ} → z ≡ shown_in (front_in (take (length b - x.place) (drop x.place b))) (length (take (length b - x.place) (drop x.place b))) → PartOf b x.place z
+  unfolding calls.part
+  part_refused x q {z} ez =
+      let o = opening b h e in
+      let k = within b h e r v x q in
+      let y : z ≡ shown_in (front_in (drop x.place b)) (length b - x.place) = ez ∙ rw (rest b x.place, length-drop x.place b) in
+      let l = shown_few (drop x.place b) in
+      let f : z ≤ length b - x.place = rw (y, ← length-drop x.place b) l in
+      record {
+        part = rw (← stops_at b h e r v, q) (ap (λ (n : ℕ). record { from = x.place; size = n }) y);
+        within = omega arith;
+        near = omega (arith, (opens_has b o.opened_well).0.size);
+      }
 
 -- the number of a part, which the host reads as that part
 abbrev pub PartTold : ℕ → calls.Part → Type 0
@@ -99,29 +91,13 @@ part_told p h e =
     let s : part_code p % 2 ^ 32 ≡ p.size = omega arith in
     rw e (refl, rw (f, s))
 
-module _ (b : List ℕ) (s : Stop) (e : stop_of s ≡ calls.stop b) where
-  pub shown_end : s ≡ End → take (length b - length b) (drop (length b) b) ≡ calls.shown b
-  unfolding calls.part
-  shown_end q = let n : length b - length b ≡ 0 = omega arith in rw (← e, q, n)
+module _ {b : List ℕ} {from size : ℕ} (p : PartOf b from size) where
+  pub shown_there : take (from + size - from) (drop from b) ≡ calls.shown b
+  shown_there = let m : from + size - from ≡ size = omega arith in rw (← p.part, m)
 
-  pub shown_part : (p n k : ℕ) → s ≡ Refused p n k → take (p + k - p) (drop p b) ≡ calls.shown b
-  unfolding calls.part
-  shown_part p n k q = let m : p + k - p ≡ k = omega arith in rw (← e, q, m)
+  pub part_coded : PartTold (from * 4294967296 + size) (calls.part b)
+  part_coded = let n = p.near in rw (← p.part) (part_told (record { from = from; size = size }) (omega arith) refl)
 
-  pub coded_end : s ≡ End → PartTold (length b * 4294967296) (calls.part b)
-  unfolding calls.part
-  coded_end q = rw (← e, q) (part_told (record { from = length b; size = 0 }) (omega arith) (omega arith))
-
-  pub coded_part : (p n k : ℕ) → s ≡ Refused p n k → p + k ≤ max_session → PartTold (p * 4294967296 + k) (calls.part b)
-  unfolding calls.part
-  coded_part p n k q h = rw (← e, q) (part_told (record { from = p; size = k }) (omega arith) refl)
-
-pub near_end : (n : ℕ) (s : Stop) → s ≡ End → Near n s → n ≤ max_session
-near_end n s q w = rw q at w
-
-pub near_part : (n : ℕ) (s : Stop) (p c k : ℕ) → s ≡ Refused p c k → Near n s → p + k ≤ max_session
-near_part n s p c k q w = rw q at w
-
-pub told : (b : List ℕ) (r : Reply) {n : ℕ} → reply_of r ≡ calls.reply b → (n ≡ answer_code (reply_of r)) × (answer_of n ≡ reply_of r)
+pub told : (b : List ℕ) (r : Result (Option Reply) Refused) {n : ℕ} → reply_of r ≡ calls.reply b → (n ≡ answer_code (reply_of r)) × (answer_of n ≡ reply_of r)
     → (n ≡ answer_code (calls.reply b)) × ((answer_of n ≡ calls.reply b) × (WhyFailed × AlwaysOrdered))
 told b r e c = (c.0 ∙ ap answer_code e, (c.1 ∙ e, (why_failed, ordered)))

@@ -1,6 +1,6 @@
 -- DECIDE: what it stores is its rule's effect.
 use Prim.Native.Nat.{ℕ, ◌+◌, ◌≤◌, ◌<◌}
-use mathlib.Core.Path.{◌≡◌, refl, sym, ◌∙◌, subst}
+use mathlib.Core.Path.{◌≡◌, refl, sym, ap, ◌∙◌, subst}
 use mathlib.Core.Bool.{Bool, true, false, ◌&&◌, cond}
 use mathlib.Core.Logic.{◌≢◌}
 use mathlib.Core.List.{List}
@@ -17,11 +17,16 @@ use Rattle.rules.specs.Table.{all}
 use Rattle.rules.proofs.Places.{entries}
 use Rattle.sets.specs.Bit.{blocks}
 use Rattle.state.specs.declared.Answer.{Answer}
-use Rattle.state.specs.declared.Answer.TheVariants.{Commits, CommitsLater, SecondRun, Refused}
+use Rattle.std.specs.Prelude.{Ok, Err}
+use Rattle.refusals.specs.Numbers.{number_of}
+use Rattle.refusals.specs.declared.Refusal.{Refusal}
+use Rattle.refusals.specs.declared.Refusal.TheVariants.{NotGranted}
+use Rattle.state.specs.declared.Answer.TheVariants.{Commits, CommitsLater, SecondRun}
 use Rattle.state.specs.Slices.{Slices}
 use Rattle.state.specs.View.{out_of_phase, set?, part, place_in, placed, queued, shown, result_of, advanced, PHASE, FAILED, RUNS, ORDER}
 use Rattle.state.specs.Fit.{Ready, Kept}
-use Rattle.state.specs.Lent.{saving, Moves, Keeps}
+use Rattle.state.specs.Lent.{saving}
+use Rattle.state.proofs.Lending.{Moves, Keeps}
 use Rattle.state.proofs.Bytes.{bytes_same, phase_stored, runs_stored, bytes_shown}
 use Rattle.state.proofs.Keeping.{header_beside, claim_beside}
 use Rattle.state.proofs.Known.{kept_byte}
@@ -60,14 +65,17 @@ module _ {m : ℕ} {b s q : List ℕ} (ready : Ready m b s q) (t : ℕ) (t32 : t
     runs = rw (part_in RUNS 32 b t t32) at (ready.known.runs t t32);
   }
 
-  module _ {p : ℕ} (read : p ≡ get_or b (PHASE + t) 0) where
-    at_phase : part PHASE 32 b t ≡ p
-    at_phase = part_in PHASE 32 b t t32 ∙ sym read
+  module _ {i : ℕ} (row : i ≡ t) where
+    abbrev p : ℕ
+    p = get_or b (PHASE + i) 0
 
-    pub decide_out : p ≢ 2 → {r : ℕ} → r ≡ out_of_phase p → Moves m (saving b s q) (Decide t) (saving b s q) (Refused r)
+    at_phase : part PHASE 32 b t ≡ p
+    at_phase = rw row (part_in PHASE 32 b t t32)
+
+    pub decide_out : p ≢ 2 → {r : Refusal} → number_of r ≡ out_of_phase p → Moves m (saving b s q) (Decide t) (saving b s q) (Err r)
     decide_out n out x = refused (λ tally. rw (lt-ltb t 32 t32, at_phase, submitted_tests _ p, ne_eqb p 2 n, out))
 
-    module _ (two : p ≡ 2) {g : Bool} (eg : g ≡ all (blocks m) (block_granted s q t)) where
+    module _ (two : p ≡ 2) {g : Bool} (eg : g ≡ all (blocks m) (block_granted s q i)) where
       two' : part PHASE 32 b t ≡ 2
       two' = at_phase ∙ two
 
@@ -78,9 +86,9 @@ module _ {m : ℕ} {b s q : List ℕ} (ready : Ready m b s q) (t : ℕ) (t32 : t
       granted = granted_all ready t t32 two'
 
       tests : g ≡ (taken && granted)
-      tests = eg ∙ tests_code ready t t32 two'
+      tests = (rw row at eg) ∙ tests_code ready t t32 two'
 
-      pub decide_10 : g ≡ false → Moves m (saving b s q) (Decide t) (saving b s q) (Refused 10)
+      pub decide_10 : g ≡ false → Moves m (saving b s q) (Decide t) (saving b s q) (Err NotGranted)
       decide_10 n x = refused (λ tally. rw (lt-ltb t 32 t32, two') (not_both taken granted 10 (sym tests ∙ n)))
 
       -- by the outcome
@@ -88,36 +96,45 @@ module _ {m : ℕ} {b s q : List ℕ} (ready : Ready m b s q) (t : ℕ) (t32 : t
         passes : (x : Slices) (tally : Tally) → check (shown m (saving b s q x) tally) (Decide t) ≡ pass
         passes x tally = rw (lt-ltb t 32 t32, two') (both taken granted 10 (sym tests ∙ y))
 
-        module _ (b' s' : List ℕ) (c : Bool) (st : Settled m t b s b' s' c) where
+        module _ (b' s' : List ℕ) (c : Bool) (settled : Settled m i b s b' s' c) where
+          st : Settled m t b s b' s' c
+          st = rw row at settled
+
           -- from the first run, or from a later one
-          module _ (done : c ≡ true) {r : ℕ} (runs : r ≡ get_or b (RUNS + t) 0) where
+          module _ (done : c ≡ true) where
+            abbrev r : ℕ
+            r = get_or b (RUNS + i) 0
+
+            runs : get_or b (RUNS + t) 0 ≡ r
+            runs = ap (λ (j : ℕ). get_or b (RUNS + j) 0) (sym row)
+
             committed : Settled m t b s b' s' true
             committed = subst (λ (c : Bool). Settled m t b s b' s' c) done st
 
             f0 : part FAILED 32 b t ≡ 0
             f0 = part_in FAILED 32 b t t32 ∙ committed.0
 
-            commits : {a : Answer} → ((tally : Tally) → advanced tally a ≡ counted_commit (ltb 1 r) tally) → result_of a ≡ answered rules.commits → Moves m (saving b s q) (Decide t) (saving b' s' q) a
+            commits : {a : Answer} → ((tally : Tally) → advanced tally a ≡ counted_commit (ltb 1 r) tally) → result_of a ≡ answered rules.commits → Moves m (saving b s q) (Decide t) (saving b' s' q) (Ok a)
             commits count result x = rw (committed.1, committed.2) (accepted
                 (passes x)
-                (λ tally. rw (f0, part_in RUNS 32 b t t32, ← runs, count tally) (bytes_shown (phase_stored (bytes_same b) long t32 4) m (saving b s q x) (counted_commit (ltb 1 r) tally) tally))
+                (λ tally. rw (f0, part_in RUNS 32 b t t32, runs, count tally) (bytes_shown (phase_stored (bytes_same b) long t32 4) m (saving b s q x) (counted_commit (ltb 1 r) tally) tally))
                 (λ tally. rw f0 result))
 
-            pub decide_first : r ≤ 1 → Moves m (saving b s q) (Decide t) (saving b' s' q) Commits
+            pub decide_first : r ≤ 1 → Moves m (saving b s q) (Decide t) (saving b' s' q) (Ok Commits)
             decide_first o = commits (λ tally. rw (le-ltb 1 r o)) refl
 
-            pub decide_later : 1 < r → Moves m (saving b s q) (Decide t) (saving b' s' q) CommitsLater
+            pub decide_later : 1 < r → Moves m (saving b s q) (Decide t) (saving b' s' q) (Ok CommitsLater)
             decide_later o = commits (λ tally. rw (lt-ltb 1 r o)) refl
 
           -- the run's number and phase, and no copy
-          pub decide_again : c ≡ false → Moves m (saving b s q) (Decide t) (saving b' s' q) SecondRun
+          pub decide_again : c ≡ false → Moves m (saving b s q) (Decide t) (saving b' s' q) (Ok SecondRun)
           decide_again n x = let z = subst (λ (c : Bool). Settled m t b s b' s' c) n st in
-              let g = runs_stored (phase_stored (bytes_same b) long t32 3) long t32 (get_or b (RUNS + t) 0 + 1) in
+              let g = phase_stored (runs_stored (bytes_same b) long t32 (get_or b (RUNS + t) 0 + 1)) long t32 3 in
               let f1 : set? (part FAILED 32 b t) ≡ true = rw (part_in FAILED 32 b t t32, ne_eqb (get_or b (FAILED + t) 0) 0 z.0) in
               rw z.1 (accepted
               (passes x)
               (λ tally. rw f1 (same_state
-              (header_beside (beside m t s s' t32 z.2) b (set (set b (PHASE + t) 3) (RUNS + t) (get_or b (RUNS + t) 0 + 1)) g.nodes)
+              (header_beside (beside m t s s' t32 z.2) b (set (set b (RUNS + t) (get_or b (RUNS + t) 0 + 1)) (PHASE + t) 3) g.nodes)
               refl
               (λ i k. entries (g.order i) (place_in q) (queued m q k) (placed q))
               g.phased
@@ -134,7 +151,7 @@ module _ {m : ℕ} {b s q : List ℕ} (ready : Ready m b s q) (t : ℕ) (t32 : t
 
   kept_settled : (b' s' : List ℕ) (c : Bool) → Settled m t b s b' s' c → Kept m b s q → Kept m b' s' q
   kept_settled b' s' true st k = rw (st.1, st.2) (kept_byte (PHASE + t) 4 (omega arith) k)
-  kept_settled b' s' false st k = rw st.1 (kept_cleared m t s s' t32 st.2 (kept_byte (RUNS + t) (get_or b (RUNS + t) 0 + 1) (omega arith) (kept_byte (PHASE + t) 3 (omega arith) k)))
+  kept_settled b' s' false st k = rw st.1 (kept_cleared m t s s' t32 st.2 (kept_byte (PHASE + t) 3 (omega arith) (kept_byte (RUNS + t) (get_or b (RUNS + t) 0 + 1) (omega arith) k)))
 
-  pub keeps_settled : (b' s' : List ℕ) (c : Bool) → Settled m t b s b' s' c → Keeps m (saving b s q) (saving b' s' q)
-  keeps_settled b' s' c st x f = record { kept = kept_settled b' s' c st f.kept; value = f.value; seen = f.seen; sheets = f.sheets }
+  pub keeps_settled : {i : ℕ} → i ≡ t → (b' s' : List ℕ) (c : Bool) → Settled m i b s b' s' c → Keeps m (saving b s q) (saving b' s' q)
+  keeps_settled row b' s' c st x f = record { kept = kept_settled b' s' c (rw row at st) f.kept; value = f.value; seen = f.seen; sheets = f.sheets }

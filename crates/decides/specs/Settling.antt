@@ -26,4 +26,4 @@ pub record Cleared (n t : ℕ) (s s' : List ℕ) : Type 0 where
 abbrev pub Settled : (m t : ℕ) (b s b' s' : List ℕ) → (commits : Bool) → Type 0
 Settled m t b s b' s' true = (get_or b (FAILED + t) 0 ≡ 0) × (b' ≡ set b (PHASE + t) 4) × (s' ≡ s)
 Settled m t b s b' s' false =
-    (get_or b (FAILED + t) 0 ≢ 0) × (b' ≡ set (set b (PHASE + t) 3) (RUNS + t) (get_or b (RUNS + t) 0 + 1)) × Cleared (blocks m) t s s'
+    (get_or b (FAILED + t) 0 ≢ 0) × (b' ≡ set (set b (RUNS + t) (get_or b (RUNS + t) 0 + 1)) (PHASE + t) 3) × Cleared (blocks m) t s s'

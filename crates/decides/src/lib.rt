@@ -1,13 +1,13 @@
 // DECIDE: a save whose entries are granted is committed, or runs again.
 #![tactic(auto)]
 
-ghost use Rattle.std.specs.Prelude.{◌<◌};
 ghost use Rattle.rules.specs.Bytes.{Decide};
 ghost use Rattle.sets.specs.Bit.{blocks};
-ghost use Rattle.state.specs.Fit.{Ready};
-ghost use Rattle.state.specs.Lent.{saving, Moves, Keeps};
+ghost use Rattle.state.specs.Fit.{ReadyIn};
+ghost use Rattle.state.specs.Lent.{saving, Only, Moves, Keeps};
 ghost use Rattle.decides.specs.Settling.{Clears, Settles, Cleared, Settled};
 
+use refusals::Refusal;
 use state::{Answer, COMMITTED, SECOND_RUN, SUBMITTED, Session};
 
 // Save t has no copy any more.
@@ -15,62 +15,53 @@ fn clear(s: &mut [u64], m: usize, t: usize)
     requires { Clears m t s.old }
     ensures { Cleared (blocks m) t s.old s.new }
 {
-    let n = state::blocks(m);
-    let mut j: usize = 0;
-    while j < n {
+    for j in 0..state::blocks(m) {
         state::set_word(s, Session::COPIED + t, j, 0);
         state::set_word(s, Session::WRITTEN + t, j, 0);
-        j += 1;
     }
 }
 
 // Save t did not fail, and is committed; or it failed, and runs again. The answer is whether it is committed.
-fn settle(b: &mut [u8], s: &mut [u64], m: usize, t: usize) -> bool
-    requires { Settles m t b.old s.old }
-    ensures { Settled m t b.old s.old b.new s.new result }
+fn settle(x: &mut Session, t: usize) -> bool
+    requires { Settles x.old.m t x.old.bytes.now x.old.sets.now }
+    ensures settled { Settled x.old.m t x.old.bytes.now x.old.sets.now x.new.bytes.now x.new.sets.now result }
+    ensures only { Only (saving x.new.bytes.now x.new.sets.now x.old.queues.now) x.old x.new }
 {
-    if b[Session::FAILED + t] == 0 {
-        b[Session::PHASE + t] = COMMITTED;
+    if x.bytes[Session::FAILED + t] == 0 {
+        x.bytes[Session::PHASE + t] = COMMITTED;
         return true;
     }
-    let r = b[Session::RUNS + t];
-    b[Session::PHASE + t] = SECOND_RUN;
-    b[Session::RUNS + t] = r + 1;
-    clear(s, m, t);
+    x.bytes[Session::RUNS + t] += 1;
+    x.bytes[Session::PHASE + t] = SECOND_RUN;
+    let m = x.m;
+    clear(x.sets, m, t);
     false
 }
 
-// A save that did not fail is committed, from its first run or a later one; a failed one runs again. The run is asked for first, so that every
-// way through has its own answer.
-pub fn decide(b: &mut [u8], s: &mut [u64], q: &[u64], m: usize, t: u8) -> Answer
-    requires { Ready m b.old s.old q.now }
-    ensures moves { Moves m (saving b.old s.old q.now) (Decide t) (saving b.new s.new q.now) result }
-    ensures kept { Keeps m (saving b.old s.old q.now) (saving b.new s.new q.now) }
+// A save that did not fail is committed, from its first run or a later one; a failed one runs again.
+pub fn decide(x: &mut Session, t: u8) -> Result<Answer, Refusal>
+    requires { ReadyIn x.old }
+    ensures moves { Moves x.old (Decide t) x.new result }
+    ensures kept { Keeps x.old x.new }
+    ensures only { Only (saving x.new.bytes.now x.new.sets.now x.old.queues.now) x.old x.new }
 {
-    if Session::SAVE_NUMBERS <= t {
-        return Answer::Refused(4);
-    }
-    let ti = t as usize;
-    let p = b[Session::PHASE + ti];
+    let i = state::save_index(t)?;
+    let p = x.bytes[Session::PHASE + i];
     if p != SUBMITTED {
-        let r = state::out_of_phase(p);
-        return Answer::Refused(r);
+        return Err(state::out_of_phase(p));
     }
-    let g = granting::decidable(s, q, m, ti);
-    if !g {
-        return Answer::Refused(10);
+    let m = x.m;
+    let sets = &mut *x.sets;
+    let queues = &mut *x.queues;
+    if !granting::decidable(sets, queues, m, i) {
+        return Err(Refusal::NotGranted);
     }
-    let r = b[Session::RUNS + ti];
-    if r <= 1 {
-        let c = settle(b, s, m, ti);
-        if c {
-            return Answer::Commits;
-        }
-        return Answer::SecondRun;
+    let runs = x.bytes[Session::RUNS + i];
+    if !settle(x, i) {
+        return Ok(Answer::SecondRun);
     }
-    let c = settle(b, s, m, ti);
-    if c {
-        return Answer::CommitsLater;
+    if runs <= 1 {
+        return Ok(Answer::Commits);
     }
-    Answer::SecondRun
+    Ok(Answer::CommitsLater)
 }

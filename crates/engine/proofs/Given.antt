@@ -1,4 +1,4 @@
--- What the commands that are lent a part of the slices ask of it.
+-- What the commands that ask for less than the step rely on.
 use Prim.Native.Nat.{ℕ, ◌≤◌, ◌<◌}
 use mathlib.Core.List.{List}
 use native.Mathlib.Omega.{arith}

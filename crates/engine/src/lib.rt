@@ -2,38 +2,30 @@
 #![tactic(auto)]
 
 ghost use Rattle.wire.specs.Meaning.{command_of};
-ghost use Rattle.state.specs.Slices.{slices};
-ghost use Rattle.state.specs.Fit.{Ready, Rising, Fit};
-ghost use Rattle.state.specs.Lent.{all, Moves, Keeps};
+ghost use Rattle.state.specs.View.{tables};
+ghost use Rattle.state.specs.Fit.{ReadyIn, Rising, Fit};
+ghost use Rattle.state.specs.Lent.{Same, Moves, Keeps};
 
-use state::Answer;
+use refusals::Refusal;
+use state::{Answer, Session};
 use wire::Command;
 
 // State and answer after a command are those of the rules.
-pub fn step(
-    b: &mut [u8],
-    s: &mut [u64],
-    q: &mut [u64],
-    value: &mut [u32],
-    seen: &mut [u16],
-    w: &mut [u32],
-    m: usize,
-    c: Command,
-) -> Answer
-    requires { Ready m b.old s.old q.old × Rising m w.old × Fit m (slices b.old s.old q.old value.old seen.old w.old) }
-    ensures moves { Moves m (all b.old s.old q.old value.old seen.old w.old) (command_of c)
-        (all b.new s.new q.new value.new seen.new w.new) result }
-    ensures kept { Keeps m (all b.old s.old q.old value.old seen.old w.old)
-        (all b.new s.new q.new value.new seen.new w.new) }
+pub fn step(x: &mut Session, c: Command) -> Result<Answer, Refusal>
+    requires { ReadyIn x.old × Rising x.old.m x.old.sheets.now × Fit x.old.m (tables x.old) }
+    ensures moves { Moves x.old (command_of c) x.new result }
+    ensures kept { Keeps x.old x.new }
+    ensures same { Same x.old x.new }
 {
+    // A `match`: the commands are eight and closed, and nothing of them is handed about.
     match c {
-        Command::Begin(t) => saves::begin(b, m, t),
-        Command::Read(t, k) => copies::read(b, s, q, value, seen, w, m, t, k),
-        Command::Write(t, v, k) => copies::write(b, s, value, m, t, k, v),
-        Command::Submit(t) => submits::submit(b, s, q, m, t),
-        Command::Take(n) => takes::take(b, s, q, seen, w, m, n),
-        Command::Decide(t) => decides::decide(b, s, q, m, t),
-        Command::Apply(n, t) => applies::apply(b, s, q, value, w, m, n, t),
-        Command::GiveUp(t) => saves::give_up(b, m, t),
+        Command::Begin(t) => saves::begin(x, t),
+        Command::Read(t, k) => copies::read(x, t, k),
+        Command::Write(t, v, k) => copies::write(x, t, k, v),
+        Command::Submit(t) => submits::submit(x, t),
+        Command::Take(n) => takes::take(x, n),
+        Command::Decide(t) => decides::decide(x, t),
+        Command::Apply(n, t) => applies::apply(x, n, t),
+        Command::GiveUp(t) => saves::give_up(x, t),
     }
 }

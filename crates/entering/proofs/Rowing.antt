@@ -1,15 +1,15 @@
 -- TAKE's entries block after block.
 use Prim.Native.Nat.{ℕ, suc, ◌+◌, ◌*◌, ◌/◌, ◌%◌, ◌^◌, ◌≤◌, ◌<◌}
 use mathlib.Core.Path.{◌≡◌, refl, sym, ◌∙◌}
-use mathlib.Core.Bool.{Bool, true, false, ◌&&◌, ◌||◌, cond, or-false, and-false}
+use mathlib.Core.Bool.{Bool, true, false, ◌&&◌, ◌||◌, or-false, and-false}
 use mathlib.Core.Logic.{◌≢◌}
 use mathlib.Core.List.{List}
 use native.Mathlib.Omega.{arith}
 use native.Mathlib.Numerals.{add-one}
 use lib.ListN.{length}
 use lib.Dec.{eqb, ltb}
-use borrow.Author.Tests.{ne_eqb, lt-ltb, le-ltb, ltb-true}
-use Rattle.rules.proofs.Table.{bool, same?, below?, clash, and_l}
+use borrow.Author.Tests.{ne_eqb, lt-ltb, le-ltb}
+use Rattle.rules.proofs.Table.{same?, below?, clash, and_l}
 use Rattle.sets.specs.Bit.{bit, low, word, in_row, stride, blocks}
 use Rattle.sets.specs.Loop.{of_block, Inside}
 use Rattle.sets.proofs.Bits.{bit_none, bit_past, tz_in, tz_lt, tz_first}
@@ -17,58 +17,44 @@ use Rattle.sets.proofs.Loops.{some_left, block_of, digit_of, before_first, next_
 use Rattle.state.specs.View.{rows, COPIED, CLAIM, CLAIM_X, HELD, OWNED, QUEUE}
 use Rattle.state.specs.Fit.{Ends}
 use Rattle.state.specs.Stored.{Stored}
-use Rattle.entering.specs.Enter.{Entered, late, ours, ours_x, fails, First, Rowing}
+use Rattle.entering.specs.Enter.{Entered, late, ours, ours_x, fails, First, first_of, Rowing}
+use Rattle.std.specs.Prelude.{Option, None, Some}
+use Rattle.std.specs.Option.{option_or}
 use Rattle.entering.proofs.Entering.{enter_none, enter_both, held_same}
 
 -- ---- The first sheet of those that fail
 
-module _ {test : ℕ → Bool} {m j first : ℕ} (g : First test m j first) {x : ℕ} (small : x < 2 ^ 64)
+module _ (test : ℕ → Bool) (m j : ℕ) {x : ℕ} (small : x < 2 ^ 64)
     (bits : (i : ℕ) → i < 64 → 64 * j + i < m → bit x i ≡ test (64 * j + i)) (inside : (i : ℕ) → bit x i ≡ true → 64 * j + i < m) where
   -- sheet k of block j
   of_j : (k : ℕ) → k < m → k / 64 ≡ j → bit x (k % 64) ≡ false → test k ≡ false
   of_j k l e b = let z : 64 * j + k % 64 ≡ k = omega arith in
       rw z at (sym (bits (k % 64) (omega arith) (rw z l)) ∙ b)
 
-  first_on : {r : ℕ} → r ≡ cond (ltb first m) first (cond (eqb x 0) first (64 * j + low x)) → First test m (suc j) r
-  first_on {r} e = bool (ltb first m) found (λ b. same? x 0 (nothing b) (here b))
+  first_on : (first : Option ℕ) → First test m j first → First test m (suc j) (option_or first (first_of j x))
+  first_on (Some f) g = let b = g.block in record { here = g.here; block = omega arith; passes = g.passes; lower = g.lower }
+  first_on None g = same? x 0 nothing here
     where
-      found : ltb first m ≡ true → First test m (suc j) r
-      found b = let f = ltb-true first m b in let w = g.block f in let z : r ≡ first = rw b at e in rw z (record {
-        top = g.top;
-        block = λ l. omega arith;
-        there = g.there;
-        lower = λ k l i o. g.lower k l (omega arith) o;
-      })
+      nothing : x ≡ 0 → First test m (suc j) (first_of j x)
+      nothing w = rw w (λ k l i. same? (k / 64) j (λ q. of_j k l q (rw w (bit_none (k % 64)))) (λ q. g k l (omega arith)))
 
-      nothing : ltb first m ≡ false → x ≡ 0 → First test m (suc j) r
-      nothing b w = let z : r ≡ first = rw (b, w) at e in rw z (record {
-        top = g.top;
-        block = λ l. let i = g.block l in omega arith;
-        there = g.there;
-        lower = λ k l i o. same? (k / 64) j (λ q. of_j k l q (rw w (bit_none (k % 64)))) (λ q. g.lower k l (omega arith) o);
-      })
-
-      here : ltb first m ≡ false → x ≢ 0 → First test m (suc j) r
-      here b w =
-          let z : r ≡ 64 * j + low x = rw (b, ne_eqb x 0 w) at e in
-          let y = tz_in 64 x (some_left w) small in
-          let s = tz_lt 64 x (some_left w) small in
+      here : x ≢ 0 → First test m (suc j) (first_of j x)
+      here w =
+          let y = tz_in x (some_left w) small in
+          let s = tz_lt x (some_left w) small in
           let n = inside (low x) y in
-          rw z (record {
-            top = omega arith;
-            block = λ l. omega arith;
-            there = λ l. sym (bits (low x) s n) ∙ y;
-            lower = λ k l i o. same? (k / 64) j
-                (λ q. of_j k l q (tz_first 64 x (k % 64) (omega arith)))
-                (λ q. g.lower k l (omega arith) (not_m b k l));
+          rw (ne_eqb x 0 w) (record {
+            here = n;
+            block = omega arith;
+            passes = sym (bits (low x) s n) ∙ y;
+            lower = λ k l. same? (k / 64) j
+                (λ q. of_j k (omega arith) q (tz_first x (some_left w) small (k % 64) (omega arith)))
+                (λ q. g k (omega arith) (omega arith));
           })
-        where
-          not_m : ltb first m ≡ false → (k : ℕ) → k < m → k < first
-          not_m b k l = below? k first (λ h. h) (λ h. clash (ltb first m) (lt-ltb first m (omega arith)) b)
 
 -- ---- One block more
 
-module _ {m n t : ℕ} {seen w s₀ s q₀ q : List ℕ} {first j : ℕ} (g : Rowing m n t seen w s₀ s q₀ q first j) (jb : j < blocks m) (t32 : t < 32) (n8 : n < 8) where
+module _ {m n t : ℕ} {seen w s₀ s q₀ q : List ℕ} {first : Option ℕ} {j : ℕ} (g : Rowing m n t seen w s₀ s q₀ q first j) (jb : j < blocks m) (t32 : t < 32) (n8 : n < 8) where
   pub row_words : stride * blocks m + rows ≤ length s₀ + stride → rows + stride * j ≤ length s
   row_words l = rw g.held.long (omega arith)
 
@@ -88,10 +74,10 @@ module _ {m n t : ℕ} {seen w s₀ s q₀ q : List ℕ} {first j : ℕ} (g : Ro
     row_inside ends i l b = below? (64 * j + i) m (λ h. h)
         (λ h. clash (bit (word s₀ (CLAIM + t) j) i) (and_l (bit (word s₀ (CLAIM + t) j) i) (bit (word s₀ (OWNED + n) j) i) (sym (our₀ i) ∙ b)) (ends (CLAIM + t) j i (omega arith) jb l h))
 
-    module _ (ends : Ends m s₀) {s₁ q₁ : List ℕ} {x first₁ : ℕ} (hold : Stored (HELD + t + stride * j) (λ c. bit (word s (HELD + t) j) c || bit our c) s s₁)
+    module _ (ends : Ends m s₀) {s₁ q₁ : List ℕ} {x : ℕ} {first₁ : Option ℕ} (hold : Stored (HELD + t + stride * j) (λ c. bit (word s (HELD + t) j) c || bit our c) s s₁)
         (en : Entered m t (of_block j (bit our)) (of_block j (λ i. bit our i && bit (word s₁ (CLAIM_X + t) j) i)) q q₁)
         (small : x < 2 ^ 64) (la : (i : ℕ) → bit x i ≡ (bit our i && late m q seen w t (bit (word s₁ (COPIED + t) j) i) (64 * j + i)))
-        (ef : first₁ ≡ cond (ltb first m) first (cond (eqb x 0) first (64 * j + low x))) where
+        (ef : first₁ ≡ option_or first (first_of j x)) where
       -- the other rows are as they were
       other_row : (r : ℕ) → r < rows → r ≢ HELD + t → word s₁ r j ≡ word s₀ r j
       other_row r l d = hold.rest (r + stride * j) (λ e. d (omega arith)) ∙ g.held.rest r j l jb d
@@ -127,7 +113,7 @@ module _ {m n t : ℕ} {seen w s₀ s q₀ q : List ℕ} {first j : ℕ} (g : Ro
               (λ d. rw (hold.rest (HELD + t + stride * i) (λ e. d (omega arith)), g.held.here i c l, later i d));
           rest = λ r i a l d. hold.rest (r + stride * i) (λ e. d (omega arith)) ∙ g.held.rest r i a l d;
         };
-        found = first_on g.found small bits_at inside_at ef;
+        found = rw ef (first_on (fails m s₀ q₀ seen w n t) m j small bits_at inside_at first g.found);
       })
         where
           later : (i : ℕ) → i ≢ j → ltb i j ≡ ltb i (suc j)
@@ -140,13 +126,17 @@ module _ {m n t : ℕ} {seen w s₀ s q₀ q : List ℕ} {first j : ℕ} (g : Ro
         (enter_none q (λ k l. rw (none (k % 64)) (and-false (eqb (k / 64) j))) (λ k l. rw (none (k % 64)) (and-false (eqb (k / 64) j))))
         (omega arith)
         (λ i. rw (bit_none i, none i))
-        (bool (ltb first m) (λ b. rw b) (λ b. rw b))
+        (none_new first)
       where
         none : (c : ℕ) → bit our c ≡ false
         none c = rw e (bit_none c)
 
+        none_new : (o : Option ℕ) → o ≡ option_or o None
+        none_new None = refl
+        none_new (Some f) = refl
+
 -- at first
-pub row_first : (m n t : ℕ) (seen w s q : List ℕ) → Rowing m n t seen w s s q q m 0
+pub row_first : (m n t : ℕ) (seen w s q : List ℕ) → Rowing m n t seen w s s q q None 0
 row_first m n t seen w s q = record {
   entered = enter_none q (λ k _. before_first (ours s n t) k) (λ k _. before_first (ours_x s n t) k);
   held = record {
@@ -154,15 +144,12 @@ row_first m n t seen w s q = record {
     here = λ i c l. rw (le-ltb i 0 (omega arith)) (sym (or-false (bit (word s (HELD + t) i) c)));
     rest = λ r i a l d. refl;
   };
-  found = record { top = omega arith; block = λ l. absurd (irr l); there = λ l. absurd (irr l); lower = λ k l i o. absurd (none i) };
+  found = λ k l i. absurd (none i);
 }
   where
-    irr : m < m → ⊥
-    irr l = omega arith
-
     none : {i : ℕ} → i < 0 → ⊥
     none l = omega arith
 
 -- all blocks are done
-pub row_end : {m n t : ℕ} {seen w s₀ s q₀ q : List ℕ} {first j all : ℕ} → Rowing m n t seen w s₀ s q₀ q first j → all ≡ blocks m → j ≤ all → all ≤ j → Rowing m n t seen w s₀ s q₀ q first (blocks m)
+pub row_end : {m n t : ℕ} {seen w s₀ s q₀ q : List ℕ} {first : Option ℕ} {j all : ℕ} → Rowing m n t seen w s₀ s q₀ q first j → all ≡ blocks m → j ≤ all → all ≤ j → Rowing m n t seen w s₀ s q₀ q first (blocks m)
 row_end {m = m} {j = j} g e a b = let z : j ≡ blocks m = omega arith in rw z at g

@@ -1,7 +1,7 @@
 -- What the loops over a save's sheets do: entries added, sheets that fail, the first of them.
-use Rattle.std.specs.Prelude.{ℕ, ◌+◌, ◌*◌, ◌/◌, ◌≤◌, ◌<◌, ◌≡◌, Bool, true, false, ◌&&◌, ◌||◌, List, ◌≢◌, length, get_or, eqb, ltb}
+use Rattle.std.specs.Prelude.{ℕ, ◌+◌, ◌*◌, ◌/◌, ◌<◌, ◌≡◌, Bool, true, false, ◌&&◌, ◌||◌, cond, List, ◌≢◌, length, get_or, eqb, ltb, Option, None, Some}
 use Rattle.rules.specs.Table.{any}
-use Rattle.sets.specs.Bit.{bit, word, in_row, blocks}
+use Rattle.sets.specs.Bit.{bit, low, word, in_row, blocks}
 use Rattle.sets.specs.Loop.{before_block}
 use Rattle.state.specs.View.{rows, COPIED, CLAIM, CLAIM_X, HELD, OWNED, QUEUE}
 
@@ -34,12 +34,21 @@ ours_x s n t k = ours s n t k && in_row s (CLAIM_X + t) k
 abbrev pub fails : (m : ℕ) (s q seen w : List ℕ) (n t k : ℕ) → Bool
 fails m s q seen w n t k = ours s n t k && late m q seen w t (in_row s (COPIED + t) k) k
 
--- `first` is the first sheet of those in blocks before j that passes the test; m where none does
-pub record First (test : ℕ → Bool) (m j first : ℕ) : Type 0 where
-  pub top : first ≤ m
-  pub block : first < m → first / 64 < j
-  pub there : first < m → test first ≡ true
-  pub lower : (k : ℕ) → k < m → k / 64 < j → k < first → test k ≡ false
+-- sheet f is the first of those in blocks before j that passes the test
+pub record FirstAt (test : ℕ → Bool) (m j f : ℕ) : Type 0 where
+  pub here : f < m
+  pub block : f / 64 < j
+  pub passes : test f ≡ true
+  pub lower : (k : ℕ) → k < f → test k ≡ false
+
+-- the first one, or none passes
+abbrev pub First : (test : ℕ → Bool) (m j : ℕ) → Option ℕ → Type 0
+First test m j None = (k : ℕ) → k < m → k / 64 < j → test k ≡ false
+First test m j (Some f) = FirstAt test m j f
+
+-- the first sheet of block j, of those whose digits are in `fails`
+abbrev pub first_of : (j fails : ℕ) → Option ℕ
+first_of j fails = cond (eqb fails 0) None (Some (64 * j + low fails))
 
 -- ---- The save's set of entries
 
@@ -50,7 +59,7 @@ pub record Held (m n t j : ℕ) (s s' : List ℕ) : Type 0 where
   pub rest : (r i : ℕ) → r < rows → i < blocks m → r ≢ HELD + t → word s' r i ≡ word s r i
 
 -- the blocks before j are done
-pub record Rowing (m n t : ℕ) (seen w s s' q q' : List ℕ) (first j : ℕ) : Type 0 where
+pub record Rowing (m n t : ℕ) (seen w s s' q q' : List ℕ) (first : Option ℕ) (j : ℕ) : Type 0 where
   pub entered : Entered m t (before_block j (ours s n t)) (before_block j (ours_x s n t)) q q'
   pub held : Held m n t j s s'
   pub found : First (fails m s q seen w n t) m j first

@@ -1,14 +1,15 @@
 // A save enters the queues of its sheets at a node: the first sheet where its check fails.
 #![tactic(auto)]
 
-ghost use Rattle.std.specs.Prelude.{◌+◌, ◌*◌, ◌≤◌, ◌<◌, ◌≡◌, ◌&&◌, ◌||◌, cond, length, get_or, eqb, ltb};
+ghost use Rattle.std.specs.Prelude.{◌+◌, ◌*◌, ◌≤◌, ◌<◌, ◌≡◌, ◌&&◌, ◌||◌, length, get_or, eqb};
 ghost use Rattle.rules.specs.Table.{any};
-ghost use Rattle.sets.specs.Bit.{bit, low, word, stride, blocks};
+ghost use Rattle.sets.specs.Bit.{bit, word, stride, blocks};
 ghost use Rattle.sets.specs.Loop.{of_block, Inside};
 ghost use Rattle.state.specs.View.{rows, CLAIM, CLAIM_X, COPIED, HELD, OWNED, QUEUE};
 ghost use Rattle.state.specs.Fit.{Table, Ends};
+ghost use Rattle.state.specs.Lent.{saving, Only};
 ghost use Rattle.state.specs.Stored.{Stored};
-ghost use Rattle.entering.specs.Enter.{Entered, is_behind, late, Rowing};
+ghost use Rattle.entering.specs.Enter.{Entered, is_behind, late, first_of, Rowing};
 
 use state::Session;
 
@@ -19,11 +20,11 @@ fn wide(x: u16) -> u32
 }
 
 // Save t has a copy of sheet k, or not; its WCT is below the sheet's.
-fn behind(seen: &[u16], w: &[u32], m: usize, t: usize, k: usize, copied: bool) -> bool
-    requires { Table 32 m seen.now × Table 2 m w.now × (m < 65536) × (t < 32) × (k < m) }
-    ensures { result ≡ is_behind m seen.now w.now t copied k }
+fn behind(x: &Session, t: usize, k: usize, copied: bool) -> bool
+    requires { Table 32 x.now.m x.now.seen.now × Table 2 x.now.m x.now.sheets.now × (x.now.m < 65536) × (t < 32) × (k < x.now.m) }
+    ensures { result ≡ is_behind x.now.m x.now.seen.now x.now.sheets.now t copied k }
 {
-    (wide(seen[t * m + k]) < w[m + k]) & copied
+    (wide(x.seen[t * x.m + k]) < x.sheets[x.m + k]) & copied
 }
 
 // Save t enters sheet k's queue, with an X or not: the queue held an X.
@@ -39,31 +40,27 @@ fn enter_sheet(q: &mut [u64], k: usize, t: usize, x: bool) -> bool
 }
 
 // Save t enters the queues of the sheets `ours` of block j: those where it fails.
-fn enter_block(
-    s: &[u64],
-    q: &mut [u64],
-    seen: &[u16],
-    w: &[u32],
-    m: usize,
-    t: usize,
-    j: usize,
-    ours: u64,
-) -> u64
-    requires { (rows + stride * j ≤ length s.now) × (QUEUE + 2 * m ≤ length q.old) × Table 32 m seen.now × Table 2 m w.now
-        × (m < 65536) × (t < 32) × (j < blocks m) × Inside m j ours }
-    ensures entered { Entered m t (of_block j (bit ours)) (of_block j (λ i. bit ours i && bit (word s.now (CLAIM_X + t) j) i)) q.old q.new }
-    ensures late { (i : _) → bit result i ≡ (bit ours i && late m q.old seen.now w.now t (bit (word s.now (COPIED + t) j) i) (64 * j + i)) }
+fn enter_block(x: &mut Session, t: usize, j: usize, ours: u64) -> u64
+    requires { (rows + stride * j ≤ length x.old.sets.now) × (QUEUE + 2 * x.old.m ≤ length x.old.queues.now) × Table 32 x.old.m x.old.seen.now
+        × Table 2 x.old.m x.old.sheets.now × (x.old.m < 65536) × (t < 32) × Inside x.old.m j ours }
+    ensures entered { Entered x.old.m t (of_block j (bit ours)) (of_block j (λ i. bit ours i && bit (word x.old.sets.now (CLAIM_X + t) j) i))
+        x.old.queues.now x.new.queues.now }
+    ensures late { (i : _) → bit result i ≡ (bit ours i && late x.old.m x.old.queues.now x.old.seen.now x.old.sheets.now t
+        (bit (word x.old.sets.now (COPIED + t) j) i) (64 * j + i)) }
+    ensures only { Only (saving x.old.bytes.now x.old.sets.now x.new.queues.now) x.old x.new }
 {
-    let xs = state::word(s, Session::CLAIM_X + t, j);
-    let copied = state::word(s, Session::COPIED + t, j);
+    let sets = &mut *x.sets;
+    let xs = state::word(sets, Session::CLAIM_X + t, j);
+    let copied = state::word(sets, Session::COPIED + t, j);
     let mut fails: u64 = 0;
     let mut left = ours;
+    // Kept: no index is counted; as in `leaving::leave_block`.
     while left != 0 {
         let i = sets::lowest(left);
         let k = 64 * j + i;
-        let x = enter_sheet(q, k, t, sets::has(xs, i));
-        let late = behind(seen, w, m, t, k, sets::has(copied, i));
-        fails = sets::with_if(fails, i, x | late);
+        let held = enter_sheet(x.queues, k, t, sets::has(xs, i));
+        let late = behind(x, t, k, sets::has(copied, i));
+        fails = sets::with_if(fails, i, held | late);
         left = sets::rest(left);
     }
     fails
@@ -89,45 +86,34 @@ fn hold(s: &mut [u64], t: usize, j: usize, ours: u64)
     state::set_word(s, Session::HELD + t, j, sets::either(h, ours));
 }
 
-// The first that fails: that of the blocks before j, or else of block j.
-fn first_of(first: usize, m: usize, j: usize, fails: u64) -> usize
-    requires { (m < 65536) × (j < blocks m) }
-    ensures { result ≡ cond (ltb first m) first (cond (eqb fails 0) first (64 * j + low fails)) }
+// The first sheet of block j that fails.
+fn first_in(j: usize, fails: u64) -> Option<usize>
+    requires { j < 1024 }
+    ensures { result ≡ first_of j fails }
 {
-    if first < m {
-        return first;
-    }
     if fails == 0 {
-        return first;
+        return None;
     }
-    64 * j + sets::lowest(fails)
+    Some(64 * j + sets::lowest(fails))
 }
 
-// Save t enters the queues of its sheets at node n: the first where it fails; m where it fails at none.
-pub fn enter(
-    s: &mut [u64],
-    q: &mut [u64],
-    seen: &[u16],
-    w: &[u32],
-    m: usize,
-    n: usize,
-    t: usize,
-) -> usize
-    requires { (stride * blocks m + rows ≤ length s.old + stride) × (QUEUE + 2 * m ≤ length q.old) × Table 32 m seen.now × Table 2 m w.now
-        × (m < 65536) × (n < 8) × (t < 32) × Ends m s.old }
-    ensures { Rowing m n t seen.now w.now s.old s.new q.old q.new result (blocks m) }
+// Save t enters the queues of its sheets at node n: the first where it fails.
+pub fn enter(x: &mut Session, n: usize, t: usize) -> Option<usize>
+    requires { (stride * blocks x.old.m + rows ≤ length x.old.sets.now + stride) × (QUEUE + 2 * x.old.m ≤ length x.old.queues.now)
+        × Table 32 x.old.m x.old.seen.now × Table 2 x.old.m x.old.sheets.now × (x.old.m < 65536) × (n < 8) × (t < 32) × Ends x.old.m x.old.sets.now }
+    ensures rowing { Rowing x.old.m n t x.old.seen.now x.old.sheets.now x.old.sets.now x.new.sets.now x.old.queues.now x.new.queues.now
+        result (blocks x.old.m) }
+    ensures only { Only (saving x.old.bytes.now x.new.sets.now x.new.queues.now) x.old x.new }
 {
-    let all = state::blocks(m);
-    let mut first = m;
-    let mut j: usize = 0;
-    while j < all {
-        let ours = ours_in(s, n, t, j);
+    let mut first = None;
+    for j in 0..state::blocks(x.m) {
+        let sets = &mut *x.sets;
+        let ours = ours_in(sets, n, t, j);
         if ours != 0 {
-            hold(s, t, j, ours);
-            let fails = enter_block(s, q, seen, w, m, t, j, ours);
-            first = first_of(first, m, j, fails);
+            hold(x.sets, t, j, ours);
+            let fails = enter_block(x, t, j, ours);
+            first = first.or(first_in(j, fails));
         }
-        j += 1;
     }
     first
 }

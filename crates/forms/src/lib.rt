@@ -4,7 +4,7 @@
 // come in no order, it would be guessed wrong at every other step.
 #![tactic(auto)]
 
-ghost use Rattle.std.specs.Prelude.{◌≡◌, ◌&&◌, ℕ, suc, ◌+◌, ltb};
+ghost use Rattle.std.specs.Prelude.{◌≡◌, ◌&&◌, ℕ, suc, ◌+◌, ltb, false, MatchOption};
 ghost use Rattle.rules.specs.Bytes.{widths};
 ghost use Rattle.forms.specs.Slots.{slot, operands, is_present, slot_limit, Known};
 ghost use Rattle.forms.specs.Columns.{byte_of, Ranged, Bounds};
@@ -36,7 +36,51 @@ const SHEET_SECOND: u64 = 0x0000000000010100;
 
 const LAST_SAVE: u64 = limits::MAX_SAVES as u64 - 1;
 
-const LARGEST_CONTENT: u32 = 4294967295;
+const LARGEST_CONTENT: u32 = u32::MAX;
+
+// A command's number.
+#[derive(Clone, Copy)]
+pub struct Kind {
+    pub number: u32,
+    ghost known: { Known number },
+}
+
+impl Kind {
+    // The command that has this number, if one has.
+    pub fn new(c: u32) -> Option<Kind>
+        ensures { MatchOption result (is_present (slot (operands c) 0) ≡ false) (λ k. k.number ≡ c) }
+    {
+        if c < 1 || LAST < c {
+            return None;
+        }
+        Some(Kind { number: c })
+    }
+
+    // Its byte of a column.
+    fn byte_of(self, column: u64) -> u64
+        ensures { result ≡ byte_of column self.number }
+    {
+        (column >> (8 * (self.number as u64 - 1))) % 256
+    }
+
+    // How many bytes a step of this command has.
+    pub fn size(self) -> usize
+        ensures { result ≡ 1 + widths (operands self.number) }
+    {
+        self.byte_of(SIZES) as usize
+    }
+
+    // The largest third operand, 0 where there is none: a content has no limit but its bytes'.
+    pub fn largest_third(self) -> u32
+        ensures { (n m : ℕ) → slot_limit n m (slot (operands self.number) 2) ≡ suc result }
+    {
+        if self.number == WRITE {
+            LARGEST_CONTENT
+        } else {
+            0
+        }
+    }
+}
 
 // Two columns: the largest first and the largest second operand of each command, 0 where it has none.
 #[derive(Clone, Copy)]
@@ -45,61 +89,25 @@ pub struct Largest {
     pub second: u64,
 }
 
-// Whether a command has this number.
-pub fn known(c: u32) -> bool
-    ensures { result ≡ is_present (slot (operands c) 0) }
-{
-    if c < 1 {
-        return false;
+impl Largest {
+    // The columns of a session with so many nodes and sheets.
+    pub fn new(nodes: u64, sheets: u64) -> Largest
+        requires { Ranged nodes sheets }
+        ensures { Bounds nodes sheets result }
+    {
+        Largest {
+            first: SAVE_FIRST * LAST_SAVE + NODE_FIRST * (nodes - 1),
+            second: SAVE_SECOND * LAST_SAVE + SHEET_SECOND * (sheets - 1),
+        }
     }
-    c <= LAST
-}
 
-// A command's byte of a column.
-fn byte_of(column: u64, c: u32) -> u64
-    requires { Known c }
-    ensures { result ≡ byte_of column c }
-{
-    (column >> (8 * (c as u64 - 1))) % 256
-}
-
-// How many bytes a step of this command has.
-pub fn size(c: u32) -> usize
-    requires { Known c }
-    ensures { result ≡ 1 + widths (operands c) }
-{
-    byte_of(SIZES, c) as usize
-}
-
-// The columns of a session with so many nodes and sheets.
-pub fn bounds(nodes: u64, sheets: u64) -> Largest
-    requires { Ranged nodes sheets }
-    ensures { Bounds nodes sheets result }
-{
-    Largest {
-        first: SAVE_FIRST * LAST_SAVE + NODE_FIRST * (nodes - 1),
-        second: SAVE_SECOND * LAST_SAVE + SHEET_SECOND * (sheets - 1),
+    // Whether a command's first two operands are small enough.
+    pub fn fits(self, kind: Kind, x: u32, y: u32) -> bool
+        ensures { (n m : ℕ) → Bounds n m self
+            → result ≡ ltb x (slot_limit n m (slot (operands kind.number) 0)) && ltb y (slot_limit n m (slot (operands kind.number) 1)) }
+    {
+        let first = kind.byte_of(self.first);
+        let second = kind.byte_of(self.second);
+        x as u64 <= first && y as u64 <= second
     }
-}
-
-// Whether a command's first two operands are small enough.
-pub fn fits(l: Largest, c: u32, x: u32, y: u32) -> bool
-    requires { Known c }
-    ensures { (n m : ℕ) → Bounds n m l → result ≡ ltb x (slot_limit n m (slot (operands c) 0)) && ltb y (slot_limit n m (slot (operands c) 1)) }
-{
-    if byte_of(l.first, c) < x as u64 {
-        return false;
-    }
-    y as u64 <= byte_of(l.second, c)
-}
-
-// The largest third operand, 0 where there is none: a content has no limit but its bytes'.
-pub fn largest_third(c: u32) -> u32
-    requires { Known c }
-    ensures { (n m : ℕ) → slot_limit n m (slot (operands c) 2) ≡ suc result }
-{
-    if c == WRITE {
-        return LARGEST_CONTENT;
-    }
-    0
 }

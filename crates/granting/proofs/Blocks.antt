@@ -1,15 +1,16 @@
 -- A save's entries, block by block.
-use Prim.Native.Nat.{ℕ, ◌+◌, ◌^◌, ◌≤◌, ◌<◌}
+use Prim.Native.Nat.{ℕ, zero, suc, ◌+◌, ◌^◌, ◌<◌}
 use mathlib.Core.Path.{◌≡◌, refl, sym, ap, ◌∙◌}
-use mathlib.Core.Bool.{Bool, true, false, not, ◌&&◌}
+use mathlib.Core.Bool.{Bool, true, false, not, ◌&&◌, and-true, and-false}
 use mathlib.Core.Logic.{◌≢◌}
 use mathlib.Core.List.{List}
-use native.Mathlib.Omega.{arith}
-use native.Mathlib.Nat.{not-suc-le-zero}
+use native.Mathlib.Numerals.{add-one}
+use native.Mathlib.Nat.{zero-add, add-zero, suc-add, add-suc}
 use lib.ListN.{get_or}
+use Rattle.std.specs.List.{list_all, range_with_len}
 use Rattle.rules.specs.Table.{all, any}
-use Rattle.rules.proofs.Table.{bool, same?, clash, all_at, all_intro, any_cong}
-use Rattle.sets.specs.Bit.{bit, word, blocks}
+use Rattle.rules.proofs.Table.{bool, all_at, all_intro, any_cong}
+use Rattle.sets.specs.Bit.{bit, word}
 use Rattle.sets.proofs.Bits.{bits_same}
 use Rattle.state.specs.View.{CLAIM, HELD, BEFORE}
 use Rattle.granting.specs.Granting.{same, in_ways, block_granted}
@@ -43,20 +44,16 @@ module _ (s q : List ℕ) (t j : ℕ) {h x : ℕ} (eh : h ≡ word s (HELD + t) 
 
 -- ---- All blocks
 
--- the blocks before j are granted
-abbrev pub Granted : (s q : List ℕ) (t j : ℕ) → Type 0
-Granted s q t j = (i : ℕ) → i < j → block_granted s q t i ≡ true
+-- a test of each number of a range, from the first up, is the rules' test of all, which begins at the last
+range_all_from : (f : ℕ → Bool) (a n : ℕ) → (all a f && list_all f (range_with_len a n)) ≡ all (n + a) f
+unfolding all
+range_all_from f a zero = rw zero-add (and-true (all a f))
+range_all_from f a (suc n) = swap (all a f) (f a) (list_all f (range_with_len (a + 1) n)) ∙ rw (add-one, suc-add) (rw (add-suc n a) at (range_all_from f (suc a) n))
+  where
+    swap : (x y z : Bool) → (x && (y && z)) ≡ ((y && x) && z)
+    swap true y z = rw and-true
+    swap false y z = rw and-false
 
-module _ (s q : List ℕ) (t : ℕ) where
-  pub granted_none : Granted s q t 0
-  granted_none i h = absurd (not-suc-le-zero h)
-
-  module _ {j : ℕ} {g : Bool} (e : g ≡ block_granted s q t j) where
-    pub granted_on : g ≡ true → Granted s q t j → Granted s q t (j + 1)
-    granted_on y f i h = same? i j (λ z. rw z (sym e ∙ y)) (λ d. f i (omega arith))
-
-    pub one_not : (m : ℕ) {n : ℕ} → n ≡ blocks m → j < n → g ≡ false → false ≡ all (blocks m) (block_granted s q t)
-    one_not m en h z = bool (all (blocks m) (block_granted s q t)) (λ y. clash g (e ∙ all_at (blocks m) (block_granted s q t) y j (omega arith)) z) (λ y. sym y)
-
-  pub granted_all : (m : ℕ) {j n : ℕ} → n ≡ blocks m → n ≤ j → Granted s q t j → true ≡ all (blocks m) (block_granted s q t)
-  granted_all m en h f = sym (all_intro (blocks m) (block_granted s q t) (λ i l. f i (omega arith)))
+pub range_all : (f : ℕ → Bool) (n : ℕ) → list_all f (range_with_len 0 n) ≡ all n f
+unfolding all
+range_all f n = rw add-zero at (range_all_from f 0 n)

@@ -1,22 +1,12 @@
 // Whether a save can be decided: it was taken by every node that owns a claimed sheet, and its entries are granted.
 #![tactic(auto)]
 
-ghost use Rattle.std.specs.Prelude.{◌<◌, ◌≡◌, cond};
+ghost use Rattle.std.specs.Prelude.{◌<◌, ◌≡◌};
 ghost use Rattle.rules.specs.Table.{all};
 ghost use Rattle.sets.specs.Bit.{bit, blocks};
 ghost use Rattle.granting.specs.Granting.{Fits, in_ways, block_granted};
 
 use state::Session;
-
-// x, if g, or else y.
-fn pick(g: bool, x: u64, y: u64) -> u64
-    ensures { result ≡ cond g x y }
-{
-    if g {
-        return x;
-    }
-    y
-}
 
 // The saves with an entry, at a sheet of block j that save t claims, that would stand in its way: any does in an X's, an X does in an S's.
 fn ways(s: &[u64], q: &[u64], m: usize, t: usize, j: usize) -> u64
@@ -25,17 +15,14 @@ fn ways(s: &[u64], q: &[u64], m: usize, t: usize, j: usize) -> u64
 {
     let xs = state::word(s, Session::CLAIM_X + t, j);
     let mut all: u64 = 0;
-    let mut left = state::word(s, Session::CLAIM + t, j);
-    while left != 0 {
-        let i = sets::lowest(left);
+    for i in sets::members(state::word(s, Session::CLAIM + t, j)) {
         let k = 64 * j + i;
-        let way = pick(
-            sets::has(xs, i),
-            q[Session::QUEUE + 2 * k],
-            q[Session::QUEUE + 2 * k + 1],
-        );
+        let way = if sets::has(xs, i) {
+            q[Session::QUEUE + 2 * k]
+        } else {
+            q[Session::QUEUE + 2 * k + 1]
+        };
         all = sets::either(all, way);
-        left = sets::rest(left);
     }
     all
 }
@@ -45,11 +32,8 @@ fn block_granted(s: &[u64], q: &[u64], m: usize, t: usize, j: usize) -> bool
     requires { Fits m t s.now q.now × (j < blocks m) }
     ensures { result ≡ block_granted s.now q.now t j }
 {
-    if state::word(s, Session::HELD + t, j) != state::word(s, Session::CLAIM + t, j) {
-        return false;
-    }
-    let w = ways(s, q, m, t, j);
-    !sets::meet(w, q[Session::BEFORE + t])
+    state::word(s, Session::HELD + t, j) == state::word(s, Session::CLAIM + t, j)
+        && !sets::meet(ways(s, q, m, t, j), q[Session::BEFORE + t])
 }
 
 // Save t was taken by every node that owns a claimed sheet, and its entries are granted.
@@ -57,14 +41,5 @@ pub fn decidable(s: &[u64], q: &[u64], m: usize, t: usize) -> bool
     requires { Fits m t s.now q.now }
     ensures { result ≡ all (blocks m) (block_granted s.now q.now t) }
 {
-    let n = state::blocks(m);
-    let mut j: usize = 0;
-    while j < n {
-        let granted = block_granted(s, q, m, t, j);
-        if !granted {
-            return false;
-        }
-        j += 1;
-    }
-    true
+    (0..state::blocks(m)).all(|j| block_granted(s, q, m, t, j))
 }

@@ -11,23 +11,27 @@ use Rattle.rules.specs.Report.{line_end}
 use Rattle.rules.specs.Showing.{holding_head, copy_fields, copy_text, holding_line, holding_text}
 use Rattle.sets.specs.Bit.{in_row}
 use Rattle.state.specs.View.{in_set, COPIED, WRITTEN, CLAIM, CLAIM_X}
-use Rattle.state.specs.Fit.{Ready, Table}
+use Rattle.state.specs.declared.Session.{Session}
+use Rattle.state.specs.Fit.{ReadyIn, Table}
 use Rattle.state.proofs.Codes.{copy_code, claims_code}
-use Rattle.state.proofs.Parts.{part_in, flat_in, in_block}
+use Rattle.state.proofs.Parts.{part_in, flat_in}
 use Rattle.state.proofs.Rows.{set_row}
-use Rattle.holdings.specs.Held.{claim_at, mark_at, Reach, Readable, held_by}
+use Rattle.holdings.specs.Held.{claim_at, mark_at, Readable, held_by}
 
-pub readable : {m : ℕ} {b s q value seen w : List ℕ} → Ready m b s q → Table 32 m value → Table 32 m seen → Table 2 m w → Readable m s value seen w
+pub readable : {x : Session} → ReadyIn x → Table 32 x.m x.value.now → Table 32 x.m x.seen.now → Table 2 x.m x.sheets.now → Readable x
 readable r v n w = record { few = r.known.sheets16; reach = r.kept.sized.sets; sets = r.kept.sets; values = v; counters = n; sheets = w }
 
 -- ---- By the sets
 
-module _ {m : ℕ} {s value seen w : List ℕ} (r : Readable m s value seen w) (t k : ℕ) (th : t < 32) (km : k < m) where
+module _ {x : Session} (r : Readable x) (t k : ℕ) (th : t < 32) (km : k < x.m) where
   abbrev st : State
-  st = held_by m s value seen w
+  st = held_by x
 
-  pub reaches : Reach s t k
-  reaches = (th, let a = r.reach in let b = in_block m k km in omega arith)
+  abbrev m : ℕ
+  m = x.m
+
+  abbrev s : List ℕ
+  s = x.sets.now
 
   row_in : (i : ℕ) → in_set m i s t k ≡ in_row s (i + t) k
   row_in i = set_row m s i th k km
@@ -49,11 +53,11 @@ module _ {m : ℕ} {s value seen w : List ℕ} (r : Readable m s value seen w) (
   pub no_copy : in_row s (COPIED + t) k ≡ false → copy_text st t k ≡ []
   no_copy e = rw (copied, e)
 
-  pub has_fields : in_row s (COPIED + t) k ≡ true → {v c n : ℕ} → v ≡ get_or value (t * m + k) 0 → c ≡ get_or seen (t * m + k) 0 → n ≡ get_or w (1 * m + k) 0
+  pub has_fields : in_row s (COPIED + t) k ≡ true → {v c n : ℕ} → v ≡ get_or x.value.now (t * m + k) 0 → c ≡ get_or x.seen.now (t * m + k) 0 → n ≡ get_or x.sheets.now (1 * m + k) 0
       → copy_fields (record { content = v; wct = c }) (ltb c n) ≡ copy_text st t k
   has_fields y ev ec en =
       let one : 1 * m + k ≡ m + k = omega arith in
-      sym (rw (copied, y, flat_in m value t k km, flat_in m seen t k km, part_in m m w k km, ← ev, ← ec, en, one))
+      sym (rw (copied, y, flat_in m x.value.now t k km, flat_in m x.seen.now t k km, part_in m m x.sheets.now k km, ← ev, ← ec, en, one))
 
   -- ---- The line
 

@@ -3,6 +3,7 @@ use Rattle.std.specs.Prelude.{ℕ, ◌+◌, ◌*◌, ◌/◌, ◌≤◌, ◌<◌
 use Rattle.rules.specs.State.{Claim, Mark, State}
 use Rattle.sets.specs.Bit.{in_row, stride, blocks}
 use Rattle.state.specs.Slices.{slices}
+use Rattle.state.specs.declared.Session.{Session}
 use Rattle.state.specs.View.{claim_of, mark_of, shown, no_tally, COPIED, WRITTEN, CLAIM, CLAIM_X, rows}
 use Rattle.state.specs.Fit.{Table, Sets}
 
@@ -17,15 +18,15 @@ mark_at s t k = mark_of (in_row s (COPIED + t) k) (in_row s (WRITTEN + t) k)
 abbrev pub Reach : List ℕ → (t k : ℕ) → Type 0
 Reach s t k = (t < 32) × (stride * (k / 64) + rows ≤ length s)
 
--- the slices of m sheets
-pub record Readable (m : ℕ) (s value seen w : List ℕ) : Type 0 where
-  pub few : m < 65536
-  pub reach : stride * blocks m + rows ≤ length s + stride
-  pub sets : Sets m s
-  pub values : Table 32 m value
-  pub counters : Table 32 m seen
-  pub sheets : Table 2 m w
+-- the tables of a session's sheets
+pub record Readable (x : Session) : Type 0 where
+  pub few : x.m < 65536
+  pub reach : stride * blocks x.m + rows ≤ length x.sets.now + stride
+  pub sets : Sets x.m x.sets.now
+  pub values : Table 32 x.m x.value.now
+  pub counters : Table 32 x.m x.seen.now
+  pub sheets : Table 2 x.m x.sheets.now
 
 -- the state as far as they show it
-abbrev pub held_by : ℕ → (s value seen w : List ℕ) → State
-held_by m s value seen w = shown m (slices [] s [] value seen w) no_tally
+abbrev pub held_by : Session → State
+held_by x = shown x.m (slices [] x.sets.now [] x.value.now x.seen.now x.sheets.now) no_tally

@@ -1,25 +1,15 @@
 -- A save's new claim, block by block.
 use Prim.Native.Nat.{ℕ, ◌+◌, ◌*◌, ◌≤◌, ◌<◌}
-use mathlib.Core.Path.{◌≡◌, refl, ◌∙◌}
+use mathlib.Core.Path.{◌≡◌, ◌∙◌}
 use mathlib.Core.Bool.{◌||◌}
 use mathlib.Core.List.{List}
 use native.Mathlib.Omega.{arith}
-use native.Mathlib.Nat.{not-suc-le-zero}
 use lib.ListN.{length, set}
 use Rattle.rules.proofs.Table.{same?}
 use Rattle.sets.specs.Bit.{bit, word, stride, blocks}
 use Rattle.state.specs.View.{COPIED, WRITTEN, CLAIM, CLAIM_X, rows}
 use Rattle.state.proofs.Rows.{Pair, paired}
 use Rattle.joining.specs.Joining.{Claimed}
-
-pub claimed_none : (t : ℕ) (s : List ℕ) → Claimed 0 t s s
-claimed_none t s = record {
-  long = refl;
-  claim = λ j c h. absurd (not-suc-le-zero h);
-  claim_x = λ j c h. absurd (not-suc-le-zero h);
-  later = λ i j h l. refl;
-  rest = λ i j h d e. refl;
-}
 
 -- one block more, by the code's own words
 module _ (t j : ℕ) (t32 : t < 32) (s₀ s : List ℕ) (o : Claimed j t s₀ s) (fits : CLAIM_X + t + stride * j < length s) {a p x w : ℕ} (c d : ℕ)

@@ -1,11 +1,10 @@
 -- A place given up, and one taken.
 use Prim.Native.Nat.{ℕ, ◌+◌, ◌≤◌, ◌<◌}
-use mathlib.Core.Path.{◌≡◌, refl, ◌∙◌}
+use mathlib.Core.Path.{◌≡◌, ◌∙◌}
 use mathlib.Core.Bool.{not, ◌&&◌, ◌||◌}
 use mathlib.Core.Logic.{◌≢◌}
 use mathlib.Core.List.{List}
 use native.Mathlib.Omega.{arith}
-use native.Mathlib.Nat.{not-suc-le-zero}
 use lib.ListN.{length, get_or, set, length-set}
 use lib.Seq.{get_or-set_same, get_or-set_other}
 use lib.Dec.{eqb}
@@ -15,9 +14,6 @@ use Rattle.state.specs.View.{placed, PHASE, FAILED, ORDER, PLACE, PLACED, BEFORE
 use Rattle.joining.specs.Joining.{Placing, waiting, Ahead, Freed}
 
 -- ---- Given up
-
-pub ahead_none : (t : ℕ) (q : List ℕ) → Ahead 0 t q q
-ahead_none t q = record { long = refl; before = λ u v h. absurd (not-suc-le-zero h); rest = λ i d. refl }
 
 pub ahead_on : (t u : ℕ) (q₀ q : List ℕ) (x : ℕ) → Ahead u t q₀ q → BEFORE + u < length q → ((v : ℕ) → bit x v ≡ (bit (get_or q (BEFORE + u) 0) v && not (eqb v t)))
     → Ahead (u + 1) t q₀ (set q (BEFORE + u) x)

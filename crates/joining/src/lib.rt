@@ -14,9 +14,7 @@ fn claim(s: &mut [u64], m: usize, t: usize)
     requires { (stride * blocks m + rows ≤ length s.old + stride) × (m < 65536) × (t < 32) }
     ensures { Claimed (blocks m) t s.old s.new }
 {
-    let n = state::blocks(m);
-    let mut j: usize = 0;
-    while j < n {
+    for j in 0..state::blocks(m) {
         let c = sets::either(
             state::word(s, Session::CLAIM + t, j),
             state::word(s, Session::COPIED + t, j),
@@ -27,7 +25,6 @@ fn claim(s: &mut [u64], m: usize, t: usize)
         );
         state::set_word(s, Session::CLAIM + t, j, c);
         state::set_word(s, Session::CLAIM_X + t, j, x);
-        j += 1;
     }
 }
 
@@ -46,9 +43,10 @@ fn take_place(b: &mut [u8], q: &mut [u64], t: u8)
     q[Session::JOINED] = sets::with(all, ti);
 }
 
-// Save t joins the end of the order with its new claim, not failed.
+// Save t joins the end of the order with its new claim, not failed. Three tables and not the session: the contents stay.
 pub fn join(b: &mut [u8], s: &mut [u64], q: &mut [u64], m: usize, t: u8)
-    requires { (ORDER + most_places ≤ length b.old) × (stride * blocks m + rows ≤ length s.old + stride) × (QUEUE ≤ length q.old) × (placed q.old < most_places) × (m < 65536) × (t < 32) }
+    requires { (ORDER + most_places ≤ length b.old) × (stride * blocks m + rows ≤ length s.old + stride) × (QUEUE ≤ length q.old)
+        × (placed q.old < most_places) × (m < 65536) × (t < 32) }
     ensures { Joining m t b.old s.old q.old b.new s.new q.new }
 {
     let ti = t as usize;
@@ -63,10 +61,8 @@ pub fn give_place(q: &mut [u64], t: usize)
     requires { (QUEUE ≤ length q.old) × (t < 32) }
     ensures { Freed t q.old q.new }
 {
-    let mut u: usize = 0;
-    while u < Session::SAVES {
+    for u in 0..Session::SAVES {
         q[Session::BEFORE + u] = sets::without(q[Session::BEFORE + u], t);
-        u += 1;
     }
     q[Session::JOINED] = sets::without(q[Session::JOINED], t);
 }

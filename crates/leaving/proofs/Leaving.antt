@@ -11,12 +11,12 @@ use borrow.Author.Tests.{lt-ltb}
 use Rattle.rules.proofs.Table.{same?}
 use Rattle.sets.specs.Bit.{bit, word, in_row, stride, blocks}
 use Rattle.sets.specs.Loop.{of_block, before_block, Inside}
-use Rattle.sets.proofs.Loops.{before_first, next_block}
+use Rattle.sets.proofs.Loops.{next_block}
 use Rattle.state.specs.View.{HELD, rows}
 use Rattle.state.specs.Fit.{Ends}
 use Rattle.state.proofs.Rows.{in_reach, word_stored, word_beside, common, common_at, ours_inside}
 use Rattle.leaving.specs.Left.{Gone, Left}
-use Rattle.leaving.proofs.Going.{gone_none, gone_both, gone_same}
+use Rattle.leaving.proofs.Going.{gone_both, gone_same}
 
 -- the loop: the blocks before j are done
 pub record Blocks (m t i : ℕ) (s₀ q₀ s q : List ℕ) (j : ℕ) : Type 0 where
@@ -24,17 +24,6 @@ pub record Blocks (m t i : ℕ) (s₀ q₀ s q : List ℕ) (j : ℕ) : Type 0 wh
   pub long : length s ≡ length s₀
   pub held : (b c : ℕ) → b < j → bit (word s (HELD + t) b) c ≡ (bit (word s₀ (HELD + t) b) c && not (bit (word s₀ i b) c))
   pub same : (a b : ℕ) → a < rows → (a ≡ HELD + t → j ≤ b) → word s a b ≡ word s₀ a b
-
-pub blocks_first : (m t i : ℕ) (s q : List ℕ) → Blocks m t i s q s q 0
-blocks_first m t i s q = record {
-  gone = gone_none q (λ k _. before_first (common s (HELD + t) i) k);
-  long = refl;
-  held = λ b c h. absurd (none h);
-  same = λ a b h e. refl;
-}
-  where
-    none : {b : ℕ} → b < 0 → ⊥
-    none h = omega arith
 
 -- a set without what it has of another
 without_both : (a b : Bool) → (a && not (a && b)) ≡ (a && not b)

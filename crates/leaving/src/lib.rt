@@ -26,6 +26,7 @@ fn leave_block(q: &mut [u64], m: usize, t: usize, j: usize, ours: u64)
     requires { (QUEUE + 2 * m ≤ length q.old) × (m < 65536) × (t < 32) × (j < blocks m) × Inside m j ours }
     ensures { Gone m t (of_block j (bit ours)) q.old q.new }
 {
+    // Kept: by `sets::members` here READ and WRITE take a fifth more instructions in the state call, whose loop this is compiled into.
     let mut left = ours;
     while left != 0 {
         let k = 64 * j + sets::lowest(left);
@@ -36,16 +37,14 @@ fn leave_block(q: &mut [u64], m: usize, t: usize, j: usize, ours: u64)
 
 // Save t's entries go at the sheets of row i.
 pub fn leave(s: &mut [u64], q: &mut [u64], m: usize, t: usize, i: usize)
-    requires { (stride * blocks m + rows ≤ length s.old + stride) × (QUEUE + 2 * m ≤ length q.old) × (m < 65536) × (t < 32) × (i < rows) × Ends m s.old }
+    requires { (stride * blocks m + rows ≤ length s.old + stride) × (QUEUE + 2 * m ≤ length q.old) × (m < 65536) × (t < 32) × (i < rows)
+        × Ends m s.old }
     ensures { Left m t (λ k. in_row s.old (HELD + t) k && in_row s.old i k) s.old q.old s.new q.new }
 {
-    let n = state::blocks(m);
-    let mut j: usize = 0;
-    while j < n {
+    for j in 0..state::blocks(m) {
         let h = state::word(s, Session::HELD + t, j);
         let ours = sets::both(h, state::word(s, i, j));
         state::set_word(s, Session::HELD + t, j, sets::minus(h, ours));
         leave_block(q, m, t, j, ours);
-        j += 1;
     }
 }

@@ -9,45 +9,46 @@ use borrow.Author.Tests.{ltb-false}
 use lib.Dec.{ltb}
 use lib.ListN.{length, get_or, drop, length-drop, length-append, drop_of_length-le}
 use lib.Seq.{drop-cons, drop-drop}
+use Rattle.std.specs.Prelude.{Ok}
 use Rattle.rules.specs.Bytes.{Form, widths}
+use Rattle.rules.specs.Steps.{pass, refuse}
 use Rattle.rules.specs.Writing.{Instruction, Listing, steps, stops, at, also, form, operands_fit, numbers, list_by, list_from}
 use Rattle.rules.proofs.Table.{bool}
 use Rattle.rules.proofs.Writing.{list_skip}
 use Rattle.forms.specs.Slots.{operands, Known}
 use Rattle.forms.proofs.Slots.{form_known}
-use Rattle.listing.specs.declared.Counted.TheVariants.{Steps, Refused}
 use Rattle.listing.specs.Meaning.{earned_by, earned, step_at, from, Counts}
 
 -- ---- One step
 
--- bytes that earn nothing begin with a step of the table, whole and in range
-earned_none : {P : Type 0} (n m : ℕ) (o : Option Form) (bs : List ℕ) → 0 ≡ earned_by n m o bs
+-- bytes that pass begin with a step of the table, whole and in range
+earned_none : {P : Type 0} (n m : ℕ) (o : Option Form) (bs : List ℕ) → earned_by n m o bs ≡ pass
     → ((f : Form) → o ≡ some f → ltb (length bs) (widths f.operands) ≡ false → operands_fit n m f.operands (numbers f.operands bs) ≡ true → P) → P
-earned_none n m none bs e on = absurd (omega arith)
+earned_none n m none bs e on = cc
 earned_none n m (some f) bs e on =
     bool (ltb (length bs) (widths f.operands))
-    (λ t. let z : 0 ≡ 3 = rw t at e in absurd (omega arith))
+    (λ t. let z : refuse 3 ≡ pass = rw t at e in cc)
     (λ t. bool (operands_fit n m f.operands (numbers f.operands bs))
     (λ u. on f refl t u)
-    (λ u. let z : 0 ≡ 4 = rw (t, u) at e in absurd (omega arith)))
+    (λ u. let z : refuse 4 ≡ pass = rw (t, u) at e in cc))
 
-earned_some : (n m c p : ℕ) (o : Option Form) (bs : List ℕ) (next : ℕ → Listing) (e : ℕ) → e ≡ earned_by n m o bs → 0 < e → list_by n m c p o bs next ≡ stops (at p e)
-earned_some n m c p none bs next e q l = rw q
-earned_some n m c p (some f) bs next e q l =
+earned_some : (n m c p : ℕ) (o : Option Form) (bs : List ℕ) (next : ℕ → Listing) (e : ℕ) → earned_by n m o bs ≡ refuse e → list_by n m c p o bs next ≡ stops (at p e)
+earned_some n m c p none bs next e q = let z : 2 ≡ e = cc in rw z
+earned_some n m c p (some f) bs next e q =
     bool (ltb (length bs) (widths f.operands))
-    (λ t. rw (t, rw t at q))
+    (λ t. let y : refuse 3 ≡ refuse e = rw t at q in let z : 3 ≡ e = cc in rw (t, z))
     (λ t. bool (operands_fit n m f.operands (numbers f.operands bs))
-    (λ u. let z : e ≡ 0 = rw (t, u) at q in absurd (omega arith))
-    (λ u. rw (t, u, rw (t, u) at q)))
+    (λ u. let z : pass ≡ refuse e = rw (t, u) at q in cc)
+    (λ u. let y : refuse 4 ≡ refuse e = rw (t, u) at q in let z : 4 ≡ e = cc in rw (t, u, z)))
 
 module _ (n m : ℕ) (b : List ℕ) (p : ℕ) (l : p < length b) where
-  pub step_refused : (e : ℕ) → e ≡ earned n m (drop p b) → 0 < e → from n m p b ≡ stops (at p e)
+  pub step_refused : (e : ℕ) → earned n m (drop p b) ≡ refuse e → from n m p b ≡ stops (at p e)
   unfolding list_from
-  step_refused e q z =
+  step_refused e q =
       let x = drop-cons b p 0 l in
-      rw x (earned_some n m (get_or b p 0) p (form (get_or b p 0)) (drop (suc p) b) (λ w. list_from n m w (suc p) (drop (suc p) b)) e (rw x at q) z)
+      rw x (earned_some n m (get_or b p 0) p (form (get_or b p 0)) (drop (suc p) b) (λ w. list_from n m w (suc p) (drop (suc p) b)) e (rw x at q))
 
-  module _ (z : 0 ≡ earned n m (drop p b)) where
+  module _ (z : earned n m (drop p b) ≡ pass) where
     pub next_known : Known (get_or b p 0)
     next_known =
         earned_none n m (form (get_or b p 0)) (drop (suc p) b) (rw (drop-cons b p 0 l) at z) (λ f q long fit. form_known (get_or b p 0) f q)
@@ -94,7 +95,7 @@ passed_none n m b start h = record { within = h; few = omega arith; so_far = [];
 
 module _ {n m : ℕ} {b : List ℕ} {start p q : ℕ} (s : Passed n m b start p q) where
   module _ (l : p < length b) where
-    abbrev pub passed_next : (w : ℕ) → 0 ≡ earned n m (drop p b) → w ≡ 1 + widths (operands (get_or b p 0)) → Passed n m b start (p + w) (q + 1)
+    abbrev pub passed_next : (w : ℕ) → earned n m (drop p b) ≡ pass → w ≡ 1 + widths (operands (get_or b p 0)) → Passed n m b start (p + w) (q + 1)
     passed_next w z e =
         record {
           within = rw e (next_fits n m b p l z);
@@ -104,16 +105,13 @@ module _ {n m : ℕ} {b : List ℕ} {start p q : ℕ} (s : Passed n m b start p 
           list = s.list ∙ rw (next_list n m b p l z, ← e) (onto_also s.so_far (step_at b p) (from n m (p + w) b));
         }
 
-    pub passed_refused : (r : ℕ) → r ≡ earned n m (drop p b) → 0 < r → Counts (from n m start b) (Refused p r)
-    passed_refused r e z = s.list ∙ rw (step_refused n m b p l r e z)
+    pub passed_refused : (e : ℕ) → earned n m (drop p b) ≡ refuse e → from n m start b ≡ stops (at p e)
+    passed_refused e z = s.list ∙ rw (step_refused n m b p l e z)
 
   -- behind the last step
   pub passed_whole : length b ≤ p → from n m start b ≡ steps s.so_far
   unfolding list_from
   passed_whole l = s.list ∙ rw (drop_of_length-le b l, append-nil)
 
-  pub passed_all : length b ≤ p → Counts (from n m start b) (Steps q)
+  pub passed_all : length b ≤ p → Counts (from n m start b) (Ok q)
   passed_all l = (s.so_far, (passed_whole l, sym s.count))
-
-  pub passed_few : q ≤ length b
-  passed_few = omega (arith, s.few, s.within)

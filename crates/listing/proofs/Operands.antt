@@ -1,6 +1,6 @@
 -- The numbers of a step's operands, from its bytes, and what they earn.
 use Prim.Native.Nat.{ℕ, suc, ◌+◌, ◌-◌, ◌≤◌, ◌<◌}
-use mathlib.Core.Path.{◌≡◌, refl, sym, ◌∙◌}
+use mathlib.Core.Path.{◌≡◌, refl, ◌∙◌}
 use mathlib.Core.Bool.{Bool, true, false, not, ◌&&◌, and-true, cond}
 use mathlib.Core.List.{List, [], ◌∷◌}
 use native.Mathlib.Omega.{arith}
@@ -9,10 +9,9 @@ use lib.Dec.{eqb, ltb}
 use lib.ListN.{length, get_or, drop, length-drop}
 use lib.Seq.{get_or-drop, drop-cons}
 use Rattle.rules.specs.Bytes.{Operand, widths}
+use Rattle.rules.specs.Steps.{pass, refuse}
 use Rattle.rules.specs.Writing.{operands_fit, numbers, words, Bytes}
-use Rattle.rules.proofs.Table.{same?}
-use Rattle.wire.specs.Meaning.{contents}
-use Rattle.wire.proofs.Front.{first_byte, second_byte, last_bytes}
+use Rattle.wire.proofs.Front.{contents, first_byte, second_byte, last_bytes}
 use Rattle.forms.specs.Slots.{three, step, slot, operands, is_present, Known, slot_limit}
 use Rattle.forms.proofs.Slots.{unknown_form, known_form, operands_fit_by}
 use Rattle.forms.proofs.Shapes.{Shape, short, middle, long, shape}
@@ -23,21 +22,6 @@ use Rattle.listing.specs.Meaning.{earned, step_at}
 only_if : (t : Bool) (v : ℕ) → cond (not t) v 0 ≡ cond t 0 v
 only_if true v = refl
 only_if false v = refl
-
--- the second operand of a step of so many bytes
-pub second_index : (size p n r : ℕ) → r ≡ cond (not (eqb size 2)) 1 0 → 2 ≤ size → p + size ≤ n → p + 1 + r < n
-second_index size p n r e l h = same? size 2
-    (λ q. let z : r ≡ 0 = e ∙ rw q in omega arith)
-    (λ q. let z : r ≡ 1 = e ∙ rw (ne_eqb size 2 q) in omega arith)
-
-pub second_is : (b : List ℕ) (size p r v : ℕ) → r ≡ cond (not (eqb size 2)) 1 0 → v ≡ cond (not (eqb size 2)) (get_or b (p + 1 + r) 0) 0 → v ≡ cond (eqb size 2) 0 (get_or b (p + 2) 0)
-second_is b size p r v e d = same? size 2
-    (λ q. d ∙ rw q)
-    (λ q.
-    let n = ne_eqb size 2 q in
-    let z : r ≡ 1 = e ∙ rw n in
-    let two : p + 1 + 1 ≡ p + 2 = omega arith in
-    d ∙ rw (n, z, two))
 
 -- ---- The three numbers by the shape of the operands
 
@@ -53,8 +37,8 @@ module _ (bs : List ℕ) where
 
   numbers_by : (os : List Operand) → widths os ≤ length bs → Shape os → numbers os bs ≡ three (get_or bs 0 0) (second_of os) (third_of os)
   numbers_by _ fits (short o a) = rw (a, first_byte)
-  numbers_by _ fits (middle o p a b) = rw (a, b, first_byte, second_byte)
-  numbers_by _ fits (long o p a b) = rw (a, b, first_byte, second_byte, last_bytes bs (omega arith))
+  numbers_by _ fits (middle o p a b) = rw (a, b, first_byte bs, second_byte bs)
+  numbers_by _ fits (long o p a b) = rw (a, b, first_byte bs, second_byte bs, last_bytes bs (omega arith))
 
   -- a content passes as it is
   third_fits : (n m : ℕ) (os : List Operand) → Bytes bs → Shape os → ltb (third_of os) (slot_limit n m (slot os 2)) ≡ true
@@ -68,15 +52,15 @@ module _ (n m : ℕ) (b : List ℕ) (p : ℕ) (l : p < length b) where
   abbrev c : ℕ
   c = get_or b p 0
 
-  pub step_unknown : is_present (slot (operands c) 0) ≡ false → 2 ≡ earned n m (drop p b)
+  pub step_unknown : is_present (slot (operands c) 0) ≡ false → earned n m (drop p b) ≡ refuse 2
   step_unknown e = rw (drop-cons b p 0 l, unknown_form c e)
 
   module _ (k : Known c) where
-    known : earned n m (drop p b) ≡ cond (ltb (length (drop (suc p) b)) (widths (operands c))) 3 (cond (operands_fit n m (operands c) (numbers (operands c) (drop (suc p) b))) 0 4)
+    known : earned n m (drop p b) ≡ cond (ltb (length (drop (suc p) b)) (widths (operands c))) (refuse 3) (cond (operands_fit n m (operands c) (numbers (operands c) (drop (suc p) b))) pass (refuse 4))
     unfolding operands
     known = known_form c k (λ f q. rw (drop-cons b p 0 l, q))
 
-    pub step_cut : length b - p < 1 + widths (operands c) → 3 ≡ earned n m (drop p b)
+    pub step_cut : length b - p < 1 + widths (operands c) → earned n m (drop p b) ≡ refuse 3
     step_cut h =
         let short : length (drop (suc p) b) < widths (operands c) = rw length-drop (omega arith) in
         rw (known, lt-ltb (length (drop (suc p) b)) (widths (operands c)) short)
@@ -86,16 +70,16 @@ module _ (n m : ℕ) (b : List ℕ) (p : ℕ) (l : p < length b) where
       within = rw length-drop (omega arith)
 
       -- the first two operands decide
-      pub step_judged : Bytes b → (y : ℕ) (f : Bool) → y ≡ cond (eqb (1 + widths (operands c)) 2) 0 (get_or b (p + 2) 0)
-          → f ≡ ltb (get_or b (p + 1) 0) (slot_limit n m (slot (operands c) 0)) && ltb y (slot_limit n m (slot (operands c) 1)) → cond f 0 4 ≡ earned n m (drop p b)
-      step_judged s y f ey e =
+      pub step_judged : Bytes b → (y : ℕ) (f g : Bool) → y ≡ cond (eqb (1 + widths (operands c)) 2) 0 (get_or b (p + 2) 0)
+          → f ≡ ltb (get_or b (p + 1) 0) (slot_limit n m (slot (operands c) 0)) && ltb y (slot_limit n m (slot (operands c) 1)) → f ≡ g → earned n m (drop p b) ≡ cond g pass (refuse 4)
+      step_judged s y f g ey e q =
           let bs = drop (suc p) b in
           let behind : (i : ℕ) → get_or bs i 0 ≡ get_or b (suc p + i) 0 = λ i. get_or-drop (suc p) b i 0 in
           let one : suc p + 0 ≡ p + 1 = omega arith in
           let two : suc p + 1 ≡ p + 2 = omega arith in
           let bytes : Bytes bs = λ i. rw (behind i) (s (suc p + i)) in
           let third = third_fits bs n m (operands c) bytes (shape c k) in
-          sym (known ∙ rw (le-ltb (length bs) (widths (operands c)) within, numbers_by bs (operands c) within (shape c k), operands_fit_by n m (get_or bs 0 0) (second_of bs (operands c)) (third_of bs (operands c)) c, third, and-true, behind 0, behind 1, one, two, ← ey, ← e))
+          known ∙ rw (le-ltb (length bs) (widths (operands c)) within, numbers_by bs (operands c) within (shape c k), operands_fit_by n m (get_or bs 0 0) (second_of bs (operands c)) (third_of bs (operands c)) c, third, and-true, behind 0, behind 1, one, two, ← ey, ← e, q)
 
 -- ---- The step itself
 

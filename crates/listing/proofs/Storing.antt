@@ -7,6 +7,7 @@ use borrow.Author.Tests.{le-ltb}
 use lib.ListN.{length, get_or, drop, length-append}
 use lib.Seq.{drop-cons}
 use Rattle.rules.specs.Bytes.{widths}
+use Rattle.rules.specs.Steps.{pass}
 use Rattle.rules.specs.Writing.{Instruction, Listing, steps, stops, form, list_from, words}
 use Rattle.rules.proofs.Writing.{list_inverts}
 use Rattle.forms.specs.Slots.{operands, Known}
@@ -22,7 +23,7 @@ words_append [] ys = refl
 words_append (x ∷ xs) ys = rw (words_append xs ys) (ap (λ (l : List ℕ). x.number ∷ l) (sym (append_assoc x.operands (words xs) (words ys))))
 
 -- a step of a list that is read passes
-passes_here : (n m : ℕ) (b : List ℕ) (p : ℕ) (js : List Instruction) → p < length b → from n m p b ≡ steps js → (0 ≡ earned n m (drop p b)) × (1 ≤ length js)
+passes_here : (n m : ℕ) (b : List ℕ) (p : ℕ) (js : List Instruction) → p < length b → from n m p b ≡ steps js → (earned n m (drop p b) ≡ pass) × (1 ≤ length js)
 unfolding list_from
 passes_here n m b p js l e =
     let x = drop-cons b p 0 l in
@@ -56,7 +57,7 @@ module _ {b before : List ℕ} {start p i : ℕ} {after : List ℕ} (s : Storing
   storing_length = wrote_length s.wrote
 
   module _ (l : p < length b) where
-    ahead : (0 ≡ earned s.n s.m (drop p b)) × (s.q + 1 ≤ length s.is)
+    ahead : (earned s.n s.m (drop p b) ≡ pass) × (s.q + 1 ≤ length s.is)
     ahead =
         onto_inverts s.passed.so_far (from s.n s.m p b) s.is (sym s.all ∙ s.passed.list) (λ js e z.
         let here = passes_here s.n s.m b p js l e in

@@ -7,20 +7,21 @@ use native.Mathlib.Omega.{arith}
 use borrow.Author.Tests.{lt-ltb, le-ltb, eqb-true}
 use lib.Dec.{eqb}
 use lib.ListN.{length, drop, length-append}
+use Rattle.std.specs.Prelude.{Ok, Err}
+use Rattle.refusals.specs.declared.Refused.{Refused}
+use Rattle.wire.specs.Refusing.{refused_at}
 use Rattle.rules.specs.Sizes.{max_session}
 use Rattle.rules.specs.Bytes.{opens, widths}
 use Rattle.rules.specs.Report.{Filled}
 use Rattle.rules.specs.Writing.{Instruction, slots, at, form, below_limits, numbers, heading, steps, list_from, listed_by, Listed, session, read, words, refuse_with, listed, Call, read_into, read_call}
 use Rattle.rules.proofs.Table.{and_l}
 use Rattle.rules.proofs.Writing.{list_inverts}
-use Rattle.wire.proofs.Header.{opens_has}
+use Rattle.wire.proofs.Headers.{opens_has}
 use Rattle.wire.proofs.Opening.{Opening}
 use Rattle.forms.specs.Columns.{Ranged}
 use Rattle.text.specs.Wrote.{Wrote}
 use Rattle.text.proofs.Writing.{wrote_front}
-use Rattle.listing.specs.declared.Counted.{Counted}
-use Rattle.listing.specs.declared.Counted.TheVariants.{Steps, Refused}
-use Rattle.listing.specs.Meaning.{from, Counts, Fits, Stored, Few}
+use Rattle.listing.specs.Meaning.{from, Counts, Fits, Stored}
 
 -- ---- Lists that are read
 
@@ -64,14 +65,11 @@ module _ (b room : List ℕ) where
     unfolding read
     reads = rw (o.opened_well, o.nodes_are, o.sheets_are)
 
-    pub step_refused : (r : Counted) (p e : ℕ) → Counts (from n m (2 + m) b) r → r ≡ Refused p e → answers (record { outcome = refuse_with (at p e); room = room })
+    pub step_refused : (r : Refused) → Counts (from n m (2 + m) b) (Err r) → answers (record { outcome = refuse_with (refused_at r); room = room })
     unfolding read_call
-    step_refused r p e c q = let z = rw q at c in rw (reads, z)
+    step_refused r z = rw (reads, z)
 
-    module _ (r : Counted) (q : ℕ) (c' : Counts (from n m (2 + m) b) r) (e : r ≡ Steps q) where
-      counted : Counts (from n m (2 + m) b) (Steps q)
-      counted = rw e at c'
-
+    module _ (q : ℕ) (counted : Counts (from n m (2 + m) b) (Ok q)) where
       abbrev is : List Instruction
       is = counted.0
 
@@ -98,9 +96,9 @@ module _ (b room : List ℕ) where
           let long : length (words is) ≤ length room = omega (arith, four) in
           sym (into ∙ rw (le-ltb (length room) (length (words is)) long, ← counted.1.1, ← text, ← o.nodes_are, ← o.sheets_are))
 
--- no more steps than a session has bytes
-pub few_steps : (b : List ℕ) (n m : ℕ) → Opening b n m → (r : Counted) (q : ℕ) → Few (length b) r → r ≡ Steps q → q ≤ max_session
-few_steps b n m o r q f e = let l : q ≤ length b = rw e at f in omega (arith, (opens_has b o.opened_well).0.size)
+-- no session has more bytes
+pub bytes_fit : (b : List ℕ) (n m : ℕ) → Opening b n m → length b ≤ max_session
+bytes_fit b n m o = (opens_has b o.opened_well).0.size
 
 -- its counts are in range
 pub counts_fit : (b : List ℕ) (n m : ℕ) → Opening b n m → Ranged n m

@@ -1,29 +1,24 @@
 // Reading a session: its header and all its steps, in words. First everything is tested, then written.
 #![tactic(auto)]
 
-ghost use Rattle.std.specs.Prelude.{◌≡◌, cond, [], ◌∷◌, ℕ, ◌+◌, ◌<◌, ◌≤◌, length, get_or, drop, eqb};
+ghost use Rattle.std.specs.Prelude.{◌≡◌, cond, [], ◌∷◌, ℕ, ◌+◌, ◌<◌, ◌≤◌, length, get_or, drop, eqb, IfOk};
+ghost use Rattle.rules.specs.Sizes.{max_session};
 ghost use Rattle.rules.specs.Bytes.{widths};
 ghost use Rattle.rules.specs.Writing as rules;
 ghost use Rattle.forms.specs.Slots.{step, operands, Known};
 ghost use Rattle.forms.specs.Columns.{Ranged, Bounds};
 ghost use Rattle.text.specs.Wrote.{Wrote};
-ghost use Rattle.listing.specs.Meaning.{earned, step_at, from, Counts, Fits, Stored, outcome_of, Few, Small};
+ghost use Rattle.listing.specs.Meaning.{earned, PassedAs, step_at, from, Counts, Fits, Stored, outcome_of};
 
-use forms::{LONGEST, Largest, SHORTEST, STEP_WORDS};
-use wire::Opened;
+use forms::{Kind, LONGEST, Largest, SHORTEST, STEP_WORDS};
+use refusals::{Refusal, Refused};
 
-// Node count, sheet count and how many steps were read, or a refusal with its place.
+// Node count, sheet count and how many steps were read.
 #[derive(Clone, Copy)]
-pub enum Listed {
-    Steps(u8, u16, usize),
-    Refused(usize, u8),
-}
-
-// How many steps there are, or the first refusal of a step with its offset.
-#[derive(Clone, Copy)]
-enum Counted {
-    Steps(usize),
-    Refused(usize, u8),
+pub struct Listed {
+    pub nodes: u8,
+    pub sheets: u16,
+    pub steps: usize,
 }
 
 // ---- Tests
@@ -47,43 +42,41 @@ fn second(session: &[u8], at: usize, size: usize) -> u32
     only_if(there, session[at + 1 + only_if(there, 1) as usize] as u32)
 }
 
-// The refusal that the step at an offset earns, 0 where it passes. A content passes as it is.
-fn step_refusal(session: &[u8], at: usize, l: Largest) -> u8
+// Whether the step at an offset passes. A content passes as it is.
+fn passed(session: &[u8], at: usize, l: Largest) -> Result<(), Refusal>
     requires { at < length session.now }
-    ensures { (n m : ℕ) → Bounds n m l → result ≡ earned n m (drop at session.now) }
+    ensures { (n m : ℕ) → Bounds n m l → PassedAs (earned n m (drop at session.now)) result }
 {
-    let c = session[at] as u32;
-    if !forms::known(c) {
-        return 2;
-    }
-    let size = forms::size(c);
+    let kind = Kind::new(session[at] as u32).ok_or(Refusal::UnknownCommand)?;
+    let size = kind.size();
     if session.len() - at < size {
-        return 3;
+        return Err(Refusal::CutShort);
     }
-    if forms::fits(l, c, session[at + 1] as u32, second(session, at, size)) {
-        return 0;
+    if !l.fits(kind, session[at + 1] as u32, second(session, at, size)) {
+        return Err(Refusal::OutOfRange);
     }
-    4
+    Ok(())
 }
 
 // Tests the steps from an offset on, one by one, and counts them.
-fn tested(session: &[u8], start: usize, nodes: u64, sheets: u64) -> Counted
+fn tested(session: &[u8], start: usize, nodes: u64, sheets: u64) -> Result<usize, Refused>
     requires { (start ≤ length session.now) × Ranged nodes sheets }
     ensures counts { Counts (from nodes sheets start session.now) result }
-    ensures few { Few (length session.now) result }
+    ensures few { IfOk result (λ q. q ≤ length session.now) }
 {
-    let l = forms::bounds(nodes, sheets);
+    let l = Largest::new(nodes, sheets);
     let mut at = start;
     let mut q: usize = 0;
+    // Kept: an offset that goes on by the step's size, and which a refusal names.
     while at < session.len() {
-        let e = step_refusal(session, at, l);
-        if 0 < e {
-            return Counted::Refused(at, e);
-        }
-        at += forms::size(session[at] as u32);
+        passed(session, at, l).map_err(|why| why.at(at))?;
+        let kind = Kind {
+            number: session[at] as u32,
+        };
+        at += kind.size();
         q += 1;
     }
-    Counted::Steps(q)
+    Ok(q)
 }
 
 // ---- Words
@@ -107,17 +100,17 @@ fn put_step(steps: &mut [u32], i: usize, session: &[u8], at: usize) -> usize
 {
     let c = session[at] as u32;
     let x = session[at + 1] as u32;
-    let size = forms::size(c);
+    let size = Kind { number: c }.size();
     if session.len() - at < LONGEST {
         return put_words(steps, i, c, x, second(session, at, size), 0);
     }
     let y = only_if(size != SHORTEST, session[at + 2] as u32);
-    let v = wire::content(
+    let v = u32::from_be_bytes([
         session[at + 3],
         session[at + 4],
         session[at + 5],
         session[at + 6],
-    );
+    ]);
     put_words(steps, i, c, x, y, only_if(size == LONGEST, v))
 }
 
@@ -128,8 +121,12 @@ fn put_steps(steps: &mut [u32], session: &[u8], start: usize) -> usize
 {
     let mut at = start;
     let mut i: usize = 0;
+    // Kept: as in `tested`. The size is asked for before the words are stored: behind them it costs 14 % of reading.
     while at < session.len() {
-        let size = forms::size(session[at] as u32);
+        let size = Kind {
+            number: session[at] as u32,
+        }
+        .size();
         i = put_step(steps, i, session, at);
         at += size;
     }
@@ -138,27 +135,21 @@ fn put_steps(steps: &mut [u32], session: &[u8], start: usize) -> usize
 
 // ---- The call
 
-// Reads a session's steps to the front of the room, or refuses and writes nothing.
-pub fn read(session: &[u8], steps: &mut [u32]) -> Listed
+// Reads a session's steps to the front of the room; or refuses and writes nothing.
+pub fn read(session: &[u8], steps: &mut [u32]) -> Result<Listed, Refused>
     ensures steps_after { record { outcome = outcome_of result; room = steps.new } ≡ rules.read_call session.now steps.old }
-    ensures small { Small result }
+    ensures small { IfOk result (λ l. l.steps ≤ max_session) }
 {
-    let header = wire::read_header(session);
-    match header {
-        Opened::Bad => Listed::Refused(0, 1),
-        Opened::Header(nodes, sheets) => {
-            let start = 2 + sheets as usize;
-            let c = tested(session, start, nodes as u64, sheets as u64);
-            match c {
-                Counted::Refused(p, n) => Listed::Refused(p, n),
-                Counted::Steps(q) => {
-                    if steps.len() / STEP_WORDS < q {
-                        return Listed::Refused(q, 15);
-                    }
-                    put_steps(steps, session, start);
-                    Listed::Steps(nodes, sheets, q)
-                }
-            }
-        }
+    let header = wire::read_header(session).ok_or(Refusal::BadHeader.at(0))?;
+    let start = 2 + header.sheets as usize;
+    let count = tested(session, start, header.nodes as u64, header.sheets as u64)?;
+    if steps.len() / STEP_WORDS < count {
+        return Err(Refusal::NoRoom.at(count));
     }
+    put_steps(steps, session, start);
+    Ok(Listed {
+        nodes: header.nodes,
+        sheets: header.sheets,
+        steps: count,
+    })
 }

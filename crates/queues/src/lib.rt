@@ -15,6 +15,7 @@ pub fn front(q: &[u64], x: u64) -> usize
 {
     let mut u = sets::lowest(x);
     let mut left = sets::both(x, q[Session::BEFORE + u]);
+    // Kept: it hops from a save to one before it; no index is counted.
     while left != 0 {
         u = sets::lowest(left);
         left = sets::both(left, q[Session::BEFORE + u]);
@@ -27,11 +28,7 @@ pub fn front_is(q: &[u64], x: u64, y: u64) -> bool
     requires { (QUEUE ≤ length q.now) × Ranked q.now x × ((u : _) → bit y u ≡ true → bit x u ≡ true) }
     ensures { result ≡ fronted q.now x y }
 {
-    if y == 0 {
-        return false;
-    }
-    let u = front(q, x);
-    sets::has(y, u)
+    y != 0 && sets::has(y, front(q, x))
 }
 
 // The front entry of sheet k's queue is an X.

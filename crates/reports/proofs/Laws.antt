@@ -9,14 +9,14 @@ use Rattle.rules.specs.Sizes.{min_buffer}
 use Rattle.rules.specs.Report.{stop_line, refusal_line, report, Filled, report_call}
 use Rattle.rules.proofs.Few.{only_twelve}
 use Rattle.rules.proofs.Sessions.{report_unopened}
-use Rattle.wire.specs.declared.Opened.TheVariants.{Bad}
+use Rattle.std.specs.Prelude.{None}
 use Rattle.wire.specs.Meaning.{opened}
 use Rattle.wire.proofs.Opening.{unopened}
 use Rattle.text.specs.Wrote.{Wrote}
 use Rattle.text.proofs.Writing.{wrote_front}
 
 -- refusal 1
-pub report_bad : (b : List ℕ) → Bad ≡ opened b → refusal_line 0 1 ≡ report b
+pub report_bad : (b : List ℕ) → opened b ≡ None → refusal_line 0 1 ≡ report b
 unfolding stop_line
 report_bad b e = sym (report_unopened b (unopened b e))
 

@@ -11,7 +11,8 @@ ghost use Rattle.rules.specs.Sizes.{min_buffer};
 ghost use Rattle.rules.specs.Report as rules;
 
 use limits::MIN_BUFFER;
-use wire::Opened;
+use refusals::Refusal;
+use text::Writer;
 
 // The whole-session call, for the host: the report's length, or 0 where the buffer is too short, which is then untouched.
 pub fn cusphewa_report(session: &[u8], report: &mut [u8]) -> usize
@@ -27,12 +28,12 @@ pub fn cusphewa_report(session: &[u8], report: &mut [u8]) -> usize
     if report.len() < MIN_BUFFER {
         return 0;
     }
-    let header = wire::read_header(session);
-    match header {
-        Opened::Bad => text::refusal_line(report, 0, 0, 1),
-        Opened::Header(nodes, sheets) => {
-            let e = session::run(session, report, nodes, sheets);
-            e.size
+    match wire::read_header(session) {
+        Some(header) => session::run(session, report, header).size,
+        None => {
+            let mut out = Writer { buf: report, at: 0 };
+            out.refusal_line(0, u8::from(Refusal::BadHeader));
+            out.at
         }
     }
 }

@@ -13,8 +13,9 @@ use borrow.Author.Tests.{ne_eqb, lt-ltb}
 use Rattle.rules.specs.Report as rules
 use Rattle.state.specs.View.{as_phase, PHASE, RUNS}
 use Rattle.state.proofs.Parts.{part_in}
-use Rattle.text.specs.Wrote.{Wrote}
-use Rattle.text.proofs.Writing.{wrote_none, wrote_next}
+use Rattle.text.specs.declared.Writer.{Writer}
+use Rattle.text.specs.Writes.{Writes}
+use Rattle.text.proofs.Writing.{writes_none, writes_next}
 use Rattle.rows.specs.declared.Row.{Row}
 use Rattle.rows.specs.Rows.{row_of, lines_of, row_in}
 
@@ -34,12 +35,12 @@ module _ (rs : List Row) where
   upto i = lines_of (take i rs)
 
   -- one row on
-  pub row_on : (ys zs ws : List ℕ) (a e r i : ℕ) → i < length rs → Wrote ys a (upto i) (26 * i) e zs → Wrote zs e (line_of (get_or rs i none)) 26 r ws → Wrote ys a (upto (i + 1)) (26 * (i + 1)) r ws
-  row_on ys zs ws a e r i h p q = wrote_next (lines_snoc (take i rs) (get_or rs i none) ∙ rw (add-one i, take-suc rs i none h)) (omega arith) p q
+  pub row_on : {w v z : Writer} (i : ℕ) → i < length rs → Writes w v (upto i) (26 * i) → Writes v z (line_of (get_or rs i none)) 26 → Writes w z (upto (i + 1)) (26 * (i + 1))
+  row_on i h p q = writes_next (lines_snoc (take i rs) (get_or rs i none) ∙ rw (add-one i, take-suc rs i none h)) p q (omega arith)
 
-  pub row_none : (ys : List ℕ) (a : ℕ) → Wrote ys a (upto 0) (26 * 0) a ys
+  pub row_none : (w : Writer) → Writes w w (upto 0) (26 * 0)
   unfolding rules.place_lines
-  row_none ys a = wrote_none ys a
+  row_none w = writes_none w
 
 -- ---- Rows made from the line
 

@@ -6,11 +6,13 @@ ghost use Rattle.rules.specs.Report as rules;
 ghost use Rattle.state.specs.Slices.{slices};
 ghost use Rattle.state.specs.View.{as_phase, placed, shown, ORDER};
 ghost use Rattle.state.specs.Fit.{Table};
-ghost use Rattle.text.specs.Wrote.{Wrote};
-ghost use Rattle.text.specs.Lines.{tally_of};
+ghost use Rattle.text.specs.Writes.{Writes};
+ghost use Rattle.tally.specs.Figures.{figures};
 ghost use Rattle.rows.specs.Rows.{row_of, lines_of, row_in, Ordered, Small, Lined};
 
 use state::Session;
+use tally::Tally;
+use text::Writer;
 
 // A state's lines have at most so many bytes: a P line 26, an O line 35, the T line 35.
 pub const MOST_LINES: usize = 26 * Session::SAVES + 35 * Session::SHEETS + 35;
@@ -23,74 +25,49 @@ pub struct Row {
     pub outcome: u8,
 }
 
-// P t r o
-fn row_line(buf: &mut [u8], at: usize, save: u8, runs: u8, outcome: u8) -> usize
-    requires { at + 26 ≤ length buf.old }
-    ensures { Wrote buf.old at (rules.place_line (record { save = save; runs = runs; outcome = outcome })) 26 result buf.new }
+// The rows' lines.
+pub fn place_lines(w: &mut Writer, rows: &[Row])
+    requires { w.old.at + 26 * length rows.now ≤ length w.old.buf.now }
+    ensures { Writes w.old w.new (lines_of rows.now) (26 * length rows.now) }
 {
-    text::place_line(buf, at, save, runs, outcome)
-}
-
-// The lines of the first `count` rows.
-pub fn place_lines(buf: &mut [u8], at: usize, rows: &[Row], count: usize) -> usize
-    requires { (count ≤ length rows.now) × (at + 26 * count ≤ length buf.old) }
-    ensures { Wrote buf.old at (lines_of (take count rows.now)) (26 * count) result buf.new }
-{
-    let mut e = at;
-    let mut i: usize = 0;
-    while i < count {
-        let r = rows[i];
-        e = row_line(buf, e, r.save, r.runs, r.outcome);
-        i = i + 1;
+    for r in rows {
+        w.place_line(r.save, r.runs, r.outcome);
     }
-    e
 }
 
-// The same of an array by value, as `rows_of` makes it.
-pub fn write_rows(buf: &mut [u8], at: usize, rows: [Row; Session::SAVES], count: usize) -> usize
-    requires { (count ≤ 32) × (at + 26 * count ≤ length buf.old) }
-    ensures { Wrote buf.old at (lines_of (take count rows)) (26 * count) result buf.new }
-{
-    place_lines(buf, at, &rows, count)
-}
-
-// A phase's letter: C committed, D dropped, U neither yet.
+// A phase's letter: C committed, D dropped, U neither yet. It is text, and so a byte.
 fn letter(phase: u8) -> u8
     ensures { result ≡ rules.letter (as_phase phase) }
 {
-    if phase == state::COMMITTED {
-        return b'C';
+    match phase {
+        0..state::COMMITTED => b'U',
+        state::COMMITTED => b'C',
+        _ => b'D',
     }
-    if state::COMMITTED < phase {
-        return b'D';
-    }
-    b'U'
 }
 
 // The saves by last place, into a lent line: how many they are.
-pub fn line_of(line: &mut [u8], b: &[u8], q: &[u64]) -> usize
-    requires { Ordered b.now q.now × (32 ≤ length line.old) }
-    ensures { Lined b.now q.now (placed q.now) line.new result }
+pub fn line_of(line: &mut [u8], x: &Session) -> usize
+    requires { Ordered x.now.bytes.now x.now.queues.now × (32 ≤ length line.old) }
+    ensures { Lined x.now.bytes.now x.now.queues.now (placed x.now.queues.now) line.new result }
 {
-    let placed = q[Session::PLACED] as usize;
+    let placed = x.queues[Session::PLACED] as usize;
     let mut n: usize = 0;
-    let mut p: usize = 0;
-    while p < placed {
-        let t = b[Session::ORDER + p];
-        let last = q[Session::PLACE + t as usize] as usize;
+    for p in 0..placed {
+        let t = x.bytes[Session::ORDER + p];
+        let last = x.queues[Session::PLACE + t as usize] as usize;
         if last == p {
             line[n] = t;
             n += 1;
         }
-        p += 1;
     }
     n
 }
 
-// The rows of the first `count` saves in line.
-fn rows_of(b: &[u8], line: &[u8], count: usize) -> [Row; Session::SAVES]
-    requires { (ORDER ≤ length b.now) × (count ≤ 32) × (count ≤ length line.now) × Small line.now count }
-    ensures { map row_of (take count result) ≡ map (row_in b.now) (take count line.now) }
+// The rows of the saves in line.
+fn rows_of(b: &[u8], line: &[u8]) -> [Row; Session::SAVES]
+    requires { (ORDER ≤ length b.now) × (length line.now ≤ 32) × Small line.now (length line.now) }
+    ensures { map row_of (take (length line.now) result) ≡ map (row_in b.now) line.now }
 {
     let none = Row {
         save: 0,
@@ -98,44 +75,30 @@ fn rows_of(b: &[u8], line: &[u8], count: usize) -> [Row; Session::SAVES]
         outcome: 0,
     };
     let mut rows = [none; Session::SAVES];
-    let mut i: usize = 0;
-    while i < count {
-        let t = line[i];
+    for (i, &t) in line.iter().enumerate() {
         let k = t as usize;
-        let r = b[Session::RUNS + k];
-        let o = letter(b[Session::PHASE + k]);
         rows[i] = Row {
             save: t,
-            runs: r,
-            outcome: o,
+            runs: b[Session::RUNS + k],
+            outcome: letter(b[Session::PHASE + k]),
         };
-        i += 1;
     }
     rows
 }
 
 // All lines of a state: the P, O and T lines. 867 is 26 * 32 + 35, for the P lines and the T line. The sets, the copies' contents and the WCTs seen,
 // which no line shows, are given as [].
-pub fn state_lines(
-    buf: &mut [u8],
-    at: usize,
-    b: &[u8],
-    q: &[u64],
-    w: &[u32],
-    m: usize,
-    accepted: u32,
-    first: u32,
-    second: u32,
-) -> usize
-    requires { Ordered b.now q.now × (m < 65536) × Table 2 m w.now × (at + 867 + 35 * m ≤ length buf.old) }
-    ensures { Wrote buf.old at
-        (rules.state_lines (shown m (slices b.now [] q.now [] [] w.now) (tally_of accepted first second)))
-        (867 + 35 * m) result buf.new }
+pub fn state_lines(w: &mut Writer, x: &Session, t: Tally)
+    requires { Ordered x.now.bytes.now x.now.queues.now × (x.now.m < 65536) × Table 2 x.now.m x.now.sheets.now
+        × (w.old.at + 867 + 35 * x.now.m ≤ length w.old.buf.now) }
+    ensures { Writes w.old w.new
+        (rules.state_lines (shown x.now.m (slices x.now.bytes.now [] x.now.queues.now [] [] x.now.sheets.now) (figures t)))
+        (867 + 35 * x.now.m) }
 {
     let mut line = [0u8; Session::SAVES];
-    let count = line_of(&mut line, b, q);
-    let rows = rows_of(b, &line, count);
-    let e = write_rows(buf, at, rows, count);
-    let f = text::sheet_lines(buf, e, w, m);
-    text::tally_line(buf, f, accepted, first, second)
+    let n = line_of(&mut line, x);
+    let rows = rows_of(x.bytes, &line[..n]);
+    place_lines(w, &rows[..n]);
+    w.sheet_lines(x.sheets, x.m);
+    w.tally_line(t.accepted, t.first, t.second);
 }

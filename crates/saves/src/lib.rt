@@ -4,47 +4,37 @@
 ghost use Rattle.std.specs.Prelude.{◌≤◌, ◌<◌, length};
 ghost use Rattle.rules.specs.Bytes.{Begin, GiveUp};
 ghost use Rattle.state.specs.View.{part, ORDER, RUNS};
-ghost use Rattle.state.specs.Lent.{own, Moves, Keeps};
+ghost use Rattle.state.specs.Lent.{own, Only, Moves, Keeps};
 
+use refusals::Refusal;
 use state::{Answer, DROPPED, FIRST_RUN, Session, UNUSED};
 
 // An unused save enters its first run.
-pub fn begin(b: &mut [u8], m: usize, t: u8) -> Answer
-    requires { (ORDER ≤ length b.old) × ((u : _) → part RUNS 32 b.old u < 255) }
-    ensures moves { Moves m (own b.old) (Begin t) (own b.new) result }
-    ensures kept { Keeps m (own b.old) (own b.new) }
+pub fn begin(x: &mut Session, t: u8) -> Result<Answer, Refusal>
+    requires { (ORDER ≤ length x.old.bytes.now) × ((u : _) → part RUNS 32 x.old.bytes.now u < 255) }
+    ensures moves { Moves x.old (Begin t) x.new result }
+    ensures kept { Keeps x.old x.new }
+    ensures only { Only (own x.new.bytes.now) x.old x.new }
 {
-    if Session::SAVE_NUMBERS <= t {
-        return Answer::Refused(4);
-    }
-    let ti = t as usize;
-    let p = b[Session::PHASE + ti];
+    let i = state::save_index(t)?;
+    let p = x.bytes[Session::PHASE + i];
     if p != UNUSED {
-        let r = state::out_of_phase(p);
-        return Answer::Refused(r);
+        return Err(state::out_of_phase(p));
     }
-    let r = b[Session::RUNS + ti];
-    b[Session::PHASE + ti] = FIRST_RUN;
-    b[Session::RUNS + ti] = r + 1;
-    Answer::Accepted
+    x.bytes[Session::RUNS + i] += 1;
+    x.bytes[Session::PHASE + i] = FIRST_RUN;
+    Ok(Answer::Accepted)
 }
 
 // A running save is dropped.
-pub fn give_up(b: &mut [u8], m: usize, t: u8) -> Answer
-    requires { ORDER ≤ length b.old }
-    ensures moves { Moves m (own b.old) (GiveUp t) (own b.new) result }
-    ensures kept { Keeps m (own b.old) (own b.new) }
+pub fn give_up(x: &mut Session, t: u8) -> Result<Answer, Refusal>
+    requires { ORDER ≤ length x.old.bytes.now }
+    ensures moves { Moves x.old (GiveUp t) x.new result }
+    ensures kept { Keeps x.old x.new }
+    ensures only { Only (own x.new.bytes.now) x.old x.new }
 {
-    if Session::SAVE_NUMBERS <= t {
-        return Answer::Refused(4);
-    }
-    let ti = t as usize;
-    let p = b[Session::PHASE + ti];
-    let run = state::running(p);
-    if !run {
-        let r = state::out_of_phase(p);
-        return Answer::Refused(r);
-    }
-    b[Session::PHASE + ti] = DROPPED;
-    Answer::Accepted
+    let i = state::save_index(t)?;
+    state::in_run(x.bytes[Session::PHASE + i])?;
+    x.bytes[Session::PHASE + i] = DROPPED;
+    Ok(Answer::Accepted)
 }

@@ -15,7 +15,7 @@ use Rattle.rules.proofs.Accepted.{same_header}
 use Rattle.rules.proofs.Reached.{reached_fresh, reached_step}
 use Rattle.rules.proofs.Sessions.{final, final_ends, final_accepts, final_refuses, session_final}
 use Rattle.wire.specs.Meaning.{front_in}
-use Rattle.wire.proofs.Header.{opens_has}
+use Rattle.wire.proofs.Headers.{opens_has}
 use Rattle.wire.proofs.Rest.{at_end, at_unknown, at_cut, at_step, step_fits, has_operands}
 use Rattle.session.specs.Going.{Going}
 

@@ -10,11 +10,11 @@ use Rattle.rules.specs.Steps as rules
 use Rattle.rules.specs.Steps.{Cause, cause, cause_at, first_cause, Rule, owns, holds, at_front, x_on, behind, rule_met, found, invalid, took, answered, Checked, pass, refuse, check, Stepped, step_by, step, decision}
 use Rattle.rules.proofs.Table.{first_none, first_at, first_cases}
 use Rattle.state.specs.declared.Answer.{Answer}
-use Rattle.state.specs.declared.Answer.TheVariants.{Accepted, Content, Took, Commits, CommitsLater, SecondRun, Recommits, Refused}
+use Rattle.state.specs.declared.Answer.TheVariants.{Accepted, Content, Took, Commits, CommitsLater, SecondRun, Recommits}
 use Rattle.state.specs.declared.Verdict.{Verdict}
 use Rattle.state.specs.declared.Verdict.TheVariants.{Valid, Invalid}
 use Rattle.state.specs.View.{result_of, cause_of}
-use Rattle.session.specs.Meaning.{reply_to, NearVerdict, NearLast}
+use Rattle.session.specs.Meaning.{reply_to, NearVerdict, Near}
 
 -- two of one kind that are said to be different
 differs : {P : Type 0} {c : Cause} → ◌≡◌ {A = Option Cause} none (some c) → P
@@ -75,7 +75,7 @@ module _ (s s' : State) (c : Command) (few : s.header.sheets < 65536) where
       by pass q = let z : took t (invalid (cause_of k)) ≡ rules.answer s c = cc in let l = by_command s c t (cause_of k) z in omega arith
       by (refuse n) q = absurd (let z : ◌≡◌ {A = ℕ} 0 1 = cc in omega arith)
 
-  pub near : (a : Answer) → ◌≡◌ {A = Stepped} (record { state = s'; result = result_of a }) (step s c) → NearLast (reply_to a)
+  pub near : (a : Answer) → ◌≡◌ {A = Stepped} (record { state = s'; result = result_of a }) (step s c) → Near (reply_to a)
   near Accepted e = tt
   near (Content v) e = tt
   near (Took t v) e = near_took t v e
@@ -83,4 +83,3 @@ module _ (s s' : State) (c : Command) (few : s.header.sheets < 65536) where
   near CommitsLater e = tt
   near SecondRun e = tt
   near Recommits e = tt
-  near (Refused n) e = tt

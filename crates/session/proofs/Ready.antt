@@ -7,7 +7,7 @@ use Rattle.rules.specs.Sizes.{max_commands}
 use Rattle.rules.specs.Bytes.{header, opens}
 use Rattle.rules.specs.State.{State}
 use Rattle.rules.proofs.Reached.{Reached}
-use Rattle.wire.proofs.Header.{opens_has, owner_small}
+use Rattle.wire.proofs.Headers.{opens_has, owner_small}
 use Rattle.state.specs.Fit.{Known}
 use Rattle.state.proofs.Reaching as reaching
 

@@ -1,5 +1,5 @@
 -- What a run over session b leaves.
-use Rattle.std.specs.Prelude.{ℕ, ◌+◌, ◌≤◌, ◌<◌, ◌≡◌, cond, List, [], ◌++◌, length, ltb}
+use Rattle.std.specs.Prelude.{ℕ, ◌<◌, ◌≡◌, cond, List, [], ◌++◌, length, ltb, Result, Ok, Err}
 use Rattle.rules.specs.Sizes.{min_buffer}
 use Rattle.rules.specs.Report.{Filled, in_front, state_lines}
 use Rattle.rules.proofs.Sessions.{Final, session_final}
@@ -7,26 +7,19 @@ use Rattle.state.specs.Slices.{Slices, slices}
 use Rattle.state.specs.View.{shown}
 use Rattle.state.specs.Fit.{Ready, Fit}
 use Rattle.tally.specs.Figures.{figures}
+use Rattle.refusals.specs.declared.Refused.{Refused}
 use Rattle.session.specs.declared.Walked.{Walked}
 use Rattle.session.specs.declared.Ended.{Ended}
-use Rattle.session.specs.declared.Halt.{Halt}
-use Rattle.session.specs.declared.Halt.TheVariants as halt
-use Rattle.session.specs.declared.Stop.{Stop}
-use Rattle.session.specs.declared.Stop.TheVariants.{End, Refused}
-use Rattle.session.specs.Meaning.{stop_of, stop_at, halt_line, reply_of, reply_in, NearLast}
+use Rattle.session.specs.Meaning.{stop_at, stop_line, last_of, reply_in, NearLast}
 
--- a refusal stands within n bytes; so do the bytes shown
-abbrev pub Within : ℕ → Halt → Type 0
-Within n halt.End = Unit {0}
-Within n (halt.Refused p c) = p < n
-
-abbrev pub Inside : ℕ → Stop → Type 0
-Inside n End = Unit {0}
-Inside n (Refused p c shown) = p + shown ≤ n
+-- a refusal stands within n bytes
+abbrev pub Within : ℕ → Result Unit Refused → Type 0
+Within n (Ok _) = Unit {0}
+Within n (Err r) = r.place < n
 
 -- the slices and what the walk comes to, as the rules have it
 abbrev pub final_of : List ℕ → ℕ → Slices → Walked → Final
-final_of b m x r = record { state = shown m x (figures r.tally); stop = stop_at b r.stop; last = reply_of (reply_in r.last) }
+final_of b m x r = record { state = shown m x (figures r.tally); stop = stop_at b r.stop; last = last_of (reply_in r.last) }
 
 pub record Carried (b : List ℕ) (m : ℕ) (x : Slices) (r : Walked) : Type 0 where
   pub same : session_final b ≡ final_of b m x r
@@ -43,13 +36,13 @@ filled text buffer = cond (ltb (length buffer) min_buffer) (record { size = 0; b
 
 -- the state's lines and the stop's
 abbrev pub lines_of : ℕ → (b q w : List ℕ) → Walked → List ℕ
-lines_of m b q w r = state_lines (shown m (slices b [] q [] [] w) (figures r.tally)) ++ halt_line r.stop
+lines_of m b q w r = state_lines (shown m (slices b [] q [] [] w) (figures r.tally)) ++ stop_line r.stop
 
 -- ---- The answer
 
 -- where the run stops, and the last accepted command's answer
 pub record Answered (b : List ℕ) (r : Ended) : Type 0 where
-  pub stops : (session_final b).stop ≡ stop_of r.stop
-  pub replies : (session_final b).last ≡ reply_of r.last
-  pub within : Inside (length b) r.stop
+  pub stops : (session_final b).stop ≡ stop_at b r.stop
+  pub replies : (session_final b).last ≡ last_of r.last
+  pub within : Within (length b) r.stop
   pub near : NearLast r.last

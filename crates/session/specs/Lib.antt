@@ -1,4 +1,5 @@
 pub mod Meaning
+pub mod Stepping
 pub mod Going
 pub mod Looping
 pub mod Carried

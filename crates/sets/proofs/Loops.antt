@@ -40,10 +40,10 @@ over_first x h = record { small = h; within = λ k e. e }
 
 module _ {x left : ℕ} (o : Over x left) (some : left ≢ 0) where
   pub low_small : low left < 64
-  low_small = tz_lt 64 left (some_left some) o.small
+  low_small = tz_lt left (some_left some) o.small
 
   pub low_left : bit left (low left) ≡ true
-  low_left = tz_in 64 left (some_left some) o.small
+  low_left = tz_in left (some_left some) o.small
 
   pub low_in : bit x (low left) ≡ true
   low_in = o.within (low left) low_left

@@ -1,5 +1,5 @@
 -- Letters and lines by what the slices have, and the text of the state that they show.
-use Prim.Native.Nat.{ℕ, zero, suc, ◌+◌, ◌≤◌, ◌<◌}
+use Prim.Native.Nat.{ℕ, ◌+◌, ◌≤◌, ◌<◌}
 use mathlib.Core.Path.{◌≡◌, refl, sym, ◌∙◌}
 use mathlib.Core.Bool.{Bool, true, false, ◌&&◌}
 use mathlib.Core.Logic.{◌≢◌}
@@ -11,14 +11,16 @@ use lib.Seq.{get_or-take, get_or-drop, length-take-le}
 use lib.Dec.{eqb}
 use Rattle.rules.specs.State.{State, Tally, is_second, at}
 use Rattle.rules.specs.Report.{rows, state_lines}
-use Rattle.rules.specs.Showing.{phase_letter, wide_letter, has_place, save_head, save_marks, place_field, save_line, save_text, order_line_of, order_line, save_lines, order_lines, node_lines, holding_line, holding_lines, entry_line, queue_lines, state_text}
+use Rattle.rules.specs.Showing.{has_place, save_head, save_marks, place_field, save_line, save_text, order_line_of, order_line, save_lines, order_lines, node_lines, holding_line, holding_lines, entry_line, queue_lines, state_text}
 use Rattle.rules.proofs.Table.{and_l}
-use Rattle.text.specs.Wrote.{Wrote}
-use Rattle.text.proofs.Writing.{wrote_none, wrote_then}
-use Rattle.clipped.proofs.Laws.{wrote_within}
+use Rattle.text.specs.declared.Writer.{Writer}
+use Rattle.text.specs.Writes.{Writes}
+use Rattle.text.proofs.Writing.{writes_then}
+use Rattle.clipped.proofs.Laws.{writes_within}
 use Rattle.state.specs.Slices.{slices}
-use Rattle.state.specs.View.{as_phase, set?, part, placed, place_in, order_in, shown, bare, PHASE, FAILED, RUNS, PLACE, ORDER, TAKEN}
-use Rattle.state.specs.Fit.{Ready}
+use Rattle.state.specs.declared.Session.{Session}
+use Rattle.state.specs.View.{as_phase, set?, part, placed, place_in, order_in, shown, shown_by, bare, PHASE, FAILED, RUNS, PLACE, ORDER, TAKEN}
+use Rattle.state.specs.Fit.{ReadyIn}
 use Rattle.state.proofs.Codes.{second_code, unused_code}
 use Rattle.state.proofs.Known.{taken_few}
 use Rattle.state.proofs.Parts.{part_in}
@@ -26,11 +28,11 @@ use Rattle.submits.specs.Wide.{wide_in}
 use Rattle.rows.specs.Rows.{Ordered}
 use Rattle.rows.proofs.Lines.{ordered}
 use Rattle.holdings.specs.Held.{held_by}
-use Rattle.showing.specs.Shows.{Marked, Numbered, numbered_by}
+use Rattle.showing.specs.Shows.{Marked, Numbered, unstored, numbered_by}
 
 -- ---- What is kept and known
 
-pub marked : {m : ℕ} {b s q : List ℕ} → Ready m b s q → Marked m b s
+pub marked : {x : Session} → ReadyIn x → Marked x
 marked r = record {
   bytes = let a = r.kept.sized.bytes in omega arith;
   few = r.known.sheets16;
@@ -38,53 +40,43 @@ marked r = record {
   sets = r.kept.sets;
 }
 
-pub numbered : {m : ℕ} {b s q : List ℕ} → Ready m b s q → Numbered b q
-numbered {q = q} r = record {
+pub numbered : {x : Session} → ReadyIn x → Numbered x
+numbered {x} r = record {
   ordered = ordered r;
   fits = r.kept.sized.fits;
-  takens = λ n h. rw (part_in TAKEN 8 q n h) at (taken_few r n h);
+  takens = λ n h. rw (part_in TAKEN 8 x.queues.now n h) at (taken_few r n h);
   nodes = r.known.nodes8;
 }
 
 -- ---- A save's line
 
-pub letter_d : (p : ℕ) → p ≢ 0 → p ≢ 1 → p ≢ 2 → p ≢ 3 → p ≢ 4 → 68 ≡ phase_letter (as_phase p)
-letter_d zero a b c d e = absurd (a refl)
-letter_d (suc zero) a b c d e = absurd (b refl)
-letter_d (suc (suc zero)) a b c d e = absurd (c refl)
-letter_d (suc (suc (suc zero))) a b c d e = absurd (d refl)
-letter_d (suc (suc (suc (suc zero)))) a b c d e = absurd (e refl)
-letter_d (suc (suc (suc (suc (suc p))))) a b c d e = refl
+-- it is in a later run
+pub later_is : (b : List ℕ) (t : ℕ) → t < 32 → is_second (as_phase (part PHASE 32 b t)) ≡ eqb (get_or b (PHASE + t) 0) 3
+later_is b t h = rw (part_in PHASE 32 b t h) (second_code (get_or b (PHASE + t) 0))
 
 module _ (m : ℕ) (b s : List ℕ) (t : ℕ) (h : t < 32) {p : ℕ} (ep : p ≡ get_or b (PHASE + t) 0) where
   phase_is : part PHASE 32 b t ≡ p
   phase_is = part_in PHASE 32 b t h ∙ sym ep
 
-  pub not_later : p ≢ 3 → 45 ≡ wide_letter (is_second (as_phase (part PHASE 32 b t)) && wide_in m s t)
-  not_later n = rw (phase_is, second_code p, ne_eqb p 3 n)
-
-  pub later : p ≡ 3 → {w : Bool} → w ≡ wide_in m s t → wide_letter w ≡ wide_letter (is_second (as_phase (part PHASE 32 b t)) && wide_in m s t)
-  later e ew = rw (phase_is, second_code p, eq-eqb p 3 e, ew)
-
   module _ (q : List ℕ) where
     abbrev st : State
     st = bare m b s q
 
-    pub unused_text : {l : List ℕ} {a : ℕ} → p ≡ 0 → Wrote l a (save_text st t) 41 a l
-    unused_text {l} {a} e = wrote_within (rw (phase_is, unused_code p, eq-eqb p 0 e)) (omega arith) (wrote_none l a)
+    pub unused_text : p ≡ 0 → save_text st t ≡ []
+    unused_text e = rw (phase_is, unused_code p, eq-eqb p 0 e)
 
-    pub save_is : {l i j k n : List ℕ} {a e f g z : ℕ} → p ≢ 0 → Wrote l a (save_head t (as_phase p) (get_or b (RUNS + t) 0)) 25 e i
-        → Wrote i e (save_marks (set? (part FAILED 32 b t)) (is_second (as_phase (part PHASE 32 b t)) && wide_in m s t)) 4 f j
-        → Wrote j f (place_field (has_place (numbered_by b q) t) (place_in q t)) 11 g k → Wrote k g (10 ∷ []) 1 z n → Wrote l a (save_text st t) 41 z n
+    pub save_is : {w x y z v : Writer} → p ≢ 0 → Writes w x (save_head t (as_phase p) (get_or b (RUNS + t) 0)) 25
+        → Writes x y (save_marks (set? (part FAILED 32 b t)) (is_second (as_phase (part PHASE 32 b t)) && wide_in m s t)) 4
+        → Writes y z (place_field (has_place (bare 0 b [] q) t) (place_in q t)) 11 → Writes z v (10 ∷ []) 1 → Writes w v (save_text st t) 41
     unfolding save_line
-    save_is y u v w x =
-        wrote_within (rw (phase_is, unused_code p, ne_eqb p 0 y, part_in RUNS 32 b t h)) (omega arith) (wrote_then (wrote_then (wrote_then u (rw phase_is at v)) w) x)
+    save_is n a k c e =
+        writes_within (rw (phase_is, unused_code p, ne_eqb p 0 n, part_in RUNS 32 b t h)) (omega arith) (writes_then (writes_then (writes_then a (rw phase_is at k)) c) e)
 
 -- ---- Places
 
 module _ {b q : List ℕ} (o : Ordered b q) where
   abbrev places : State
-  places = numbered_by b q
+  places = bare 0 b [] q
 
   pub order_length : length places.order ≡ placed q
   order_length = length-take-le (placed q) (order_in b) (rw (length-drop ORDER b) (let a = o.bytes in omega arith))
@@ -117,10 +109,10 @@ module _ {b q : List ℕ} (o : Ordered b q) where
 
 -- ---- The text
 
-module _ (m : ℕ) (b s q value seen w : List ℕ) (tally : Tally) where
+module _ (x : Session) (tally : Tally) where
   pub all_lines :
-      state_lines (shown m (slices b [] q [] [] w) tally) ++ save_lines (bare m b s q) ++ order_lines (numbered_by b q) ++ node_lines (numbered_by b q)
-      ++ holding_lines (held_by m s value seen w) ++ queue_lines (bare m b s q)
-      ≡ state_text (shown m (slices b s q value seen w) tally)
+      state_lines (shown x.m (slices x.bytes.now [] x.queues.now [] [] x.sheets.now) tally) ++ save_lines (unstored x) ++ order_lines (numbered_by x) ++ node_lines (numbered_by x)
+      ++ holding_lines (held_by x) ++ queue_lines (unstored x)
+      ≡ state_text (shown_by x tally)
   unfolding rows state_lines save_line save_lines order_lines node_lines holding_line holding_lines entry_line queue_lines state_text
   all_lines = refl

@@ -1,5 +1,5 @@
 -- Slices of zeros, with the node count and the owners' sets stored, are what a session starts from.
-use Prim.Native.Nat.{ℕ, zero, suc, ◌+◌, ◌-◌, ◌*◌, ◌/◌, ◌%◌, ◌^◌, ◌≤◌, ◌<◌}
+use Prim.Native.Nat.{ℕ, zero, suc, ◌+◌, ◌-◌, ◌*◌, ◌/◌, ◌%◌, ◌≤◌, ◌<◌}
 use mathlib.Core.Path.{◌≡◌, refl, sym, ap, ◌∙◌, fun_ext}
 use mathlib.Core.Bool.{false, ◌&&◌, ◌||◌, cond, and-false, or-false}
 use mathlib.Core.Logic.{◌≢◌}
@@ -81,10 +81,6 @@ owned_on m owners s₀ {s} {s'} k {n} en small o st = record {
         rw (z, eq-eqb c (k % 64) e, lt-ltb k (k + 1) (omega arith), eq-eqb (get_or owners k 0) n (sym en), le-ltb k k (omega arith)))
         (λ e. let z : 64 * (k / 64) + c ≢ k = λ y. e (omega arith) in
         rw (ne_eqb c (k % 64) e, next_sheet k (k / 64) c h z) (or-false _))
-
--- a node's number fits
-pub node_fits : {n : ℕ} → n < 8 → (n < 2 ^ 64) × (OWNED + n < 2 ^ 64)
-node_fits h = (omega arith, omega arith)
 
 -- a sheet's place in its owner's set is one
 pub owner_fits : (owners : List ℕ) {s₀ s : List ℕ} (k : ℕ) → ((i : ℕ) → get_or owners i 0 < 8) → k < length owners → Owned (length owners) owners s₀ s k

@@ -5,6 +5,7 @@ pub mod Fresh
 pub mod Keeping
 pub mod Known
 pub mod OutOfPhase
+pub mod Lending
 pub mod Parts
 pub mod Reaching
 pub mod Rows

@@ -4,6 +4,7 @@ use Rattle.rules.specs.State.{State, is_first, is_submitted, is_second, running,
 use Rattle.rules.specs.Steps.{mem, has_taken}
 use Rattle.sets.specs.Bit.{bit, word, stride, blocks}
 use Rattle.state.specs.Slices.{Slices}
+use Rattle.state.specs.declared.Session.{Session}
 use Rattle.state.specs.View.{member, in_set, owner_in, placed, place_in, order_in, queued, queued_x, bare, part, COPIED, WRITTEN, CLAIM, CLAIM_X, HELD, OWNED, ORDER, QUEUE, BEFORE, JOINED, rows}
 
 -- places that the order has room for
@@ -96,3 +97,7 @@ Rising m w = (k : ℕ) → part m m w k < 65535
 pub record Ready (m : ℕ) (b s q : List ℕ) : Type 0 where
   pub kept : Kept m b s q
   pub known : Known (bare m b s q)
+
+-- so of a session
+abbrev pub ReadyIn : Session → Type 0
+ReadyIn x = Ready x.m x.bytes.now x.sets.now x.queues.now

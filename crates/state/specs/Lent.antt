@@ -1,14 +1,16 @@
--- The slices that a command is lent, and what it is for a command to do what its rule says.
-use Rattle.std.specs.Prelude.{ℕ, ◌≡◌, List, []}
+-- The tables that a command may change, and what it is for a command to do what its rule says.
+use Rattle.std.specs.Prelude.{ℕ, ◌≡◌, List, Result}
 use Rattle.rules.specs.Bytes.{Command}
 use Rattle.rules.specs.State.{Tally, State}
 use Rattle.rules.specs.Steps as rules
-use Rattle.state.specs.View.{shown, no_tally, result_of, advanced}
+use Rattle.refusals.specs.declared.Refusal.{Refusal}
+use Rattle.state.specs.View.{shown_by, tables, result_in, advanced_in}
 use Rattle.state.specs.Fit.{Fit}
 use Rattle.state.specs.Slices.{Slices, slices}
 use Rattle.state.specs.declared.Answer.{Answer}
+use Rattle.state.specs.declared.Session.{Session}
 
--- ---- What a command is lent, among whatever the other slices are
+-- ---- Some of the tables, among whatever the others are
 
 abbrev pub Lent : Type 0
 Lent = Slices → Slices
@@ -32,20 +34,33 @@ applying b s q value w x = slices b s q value x.seen w
 abbrev pub all : (b s q value seen w : List ℕ) → Lent
 all b s q value seen w x = slices b s q value seen w
 
--- the state as far as the lent slices show it, for a test that looks at no other
-abbrev pub seen_by : ℕ → Lent → State
-seen_by m f = shown m (f (slices [] [] [] [] [] [])) no_tally
+-- ---- What stays as it was
+
+-- a session's references are the same, and its number of sheets
+abbrev pub Same : Session → Session → Type 0
+Same x x' = (x'.m ≡ x.m) × (x'.bytes.ghost_name ≡ x.bytes.ghost_name) × (x'.sets.ghost_name ≡ x.sets.ghost_name) × (x'.queues.ghost_name ≡ x.queues.ghost_name)
+    × (x'.value.ghost_name ≡ x.value.ghost_name) × (x'.seen.ghost_name ≡ x.seen.ghost_name) × (x'.sheets.ghost_name ≡ x.sheets.ghost_name)
+
+-- so, and its tables are those before, but for these
+pub record Only (after : Lent) (x x' : Session) : Type 0 where
+  pub same : Same x x'
+  pub bytes : x'.bytes.now ≡ (after (tables x)).bytes
+  pub sets : x'.sets.now ≡ (after (tables x)).sets
+  pub queues : x'.queues.now ≡ (after (tables x)).queues
+  pub value : x'.value.now ≡ (after (tables x)).value
+  pub seen : x'.seen.now ≡ (after (tables x)).seen
+  pub sheets : x'.sheets.now ≡ (after (tables x)).sheets
 
 -- ---- What a command does
 
--- the state after and the answer are those of the rules' step, whatever the tally
-pub record Steps (before : Tally → State) (c : Command) (after : Tally → State) (a : Answer) : Type 0 where
-  pub equation : (tally : Tally) → ◌≡◌ {A = rules.Stepped} (record { state = after (advanced tally a); result = result_of a }) (rules.step (before tally) c)
+-- the state after and the result are those of the rules' step, whatever the tally
+pub record Steps (before : Tally → State) (c : Command) (after : Tally → State) (r : Result Answer Refusal) : Type 0 where
+  pub equation : (tally : Tally) → ◌≡◌ {A = rules.Stepped} (record { state = after (advanced_in tally r); result = result_in r }) (rules.step (before tally) c)
 
--- the same of the lent slices, whatever the others
-abbrev pub Moves : ℕ → (before : Lent) → Command → (after : Lent) → Answer → Type 0
-Moves m before c after a = (x : Slices) → Steps (shown m (before x)) c (shown m (after x)) a
+-- the same of a session
+abbrev pub Moves : (before : Session) → Command → (after : Session) → Result Answer Refusal → Type 0
+Moves x c x' r = Steps (shown_by x) c (shown_by x') r
 
 -- sizes and sets stand
-abbrev pub Keeps : ℕ → (before after : Lent) → Type 0
-Keeps m before after = (x : Slices) → Fit m (before x) → Fit m (after x)
+abbrev pub Keeps : (before after : Session) → Type 0
+Keeps x x' = Fit x.m (tables x) → Fit x'.m (tables x')

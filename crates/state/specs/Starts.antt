@@ -1,9 +1,11 @@
 -- What a session starts from.
 use Rattle.std.specs.Prelude.{ℕ, ◌+◌, ◌*◌, ◌≤◌, ◌≡◌, List, length, get_or}
+use Rattle.std.specs.Borrow.{MutBor}
 use Rattle.rules.specs.Bytes.{Header}
 use Rattle.rules.specs.State.{fresh}
 use Rattle.sets.specs.Bit.{stride, blocks}
 use Rattle.state.specs.Slices.{Slices}
+use Rattle.state.specs.declared.Session.{Session}
 use Rattle.state.specs.View.{shown, no_tally, ORDER, QUEUE, rows}
 use Rattle.state.specs.Fit.{most_places, Table, Fit}
 
@@ -33,3 +35,12 @@ header_by nodes owners = record { nodes = nodes; sheets = length owners; owner =
 pub record Starts (nodes : ℕ) (owners : List ℕ) (x : Slices) : Type 0 where
   pub shows : shown (length owners) x no_tally ≡ fresh (header_by nodes owners)
   pub fit : Fit (length owners) x
+
+-- a session that was lent these tables has their references, so whoever lent them finds there what it leaves
+pub record Holds (x : Session) (b s q value' seen' w : MutBor (List ℕ)) : Type 0 where
+  pub bytes : x.bytes.ghost_name ≡ b.ghost_name
+  pub sets : x.sets.ghost_name ≡ s.ghost_name
+  pub queues : x.queues.ghost_name ≡ q.ghost_name
+  pub value : x.value.ghost_name ≡ value'.ghost_name
+  pub seen : x.seen.ghost_name ≡ seen'.ghost_name
+  pub sheets : x.sheets.ghost_name ≡ w.ghost_name

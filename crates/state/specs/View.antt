@@ -1,19 +1,22 @@
 -- The rules' state that the slices show, and the paper's values of each answer.
-use Rattle.std.specs.Prelude.{ℕ, zero, suc, ◌+◌, ◌*◌, Bool, true, false, not, ◌&&◌, cond, List, [], get_or, take, drop, eqb, ltb, leb}
+use Rattle.std.specs.Prelude.{ℕ, zero, suc, ◌+◌, ◌*◌, Bool, true, false, not, ◌&&◌, cond, List, [], get_or, take, drop, eqb, ltb, leb, Result, Ok, Err}
 use Rattle.rules.specs.Bytes.{Header}
 use Rattle.rules.specs.State.{Phase, unused, first, submitted, second, committed, dropped, Mark, absent, copied, written, Claim, unclaimed, shared, exclusive, Tally, State}
 use Rattle.rules.specs.Steps as rules
-use Rattle.rules.specs.Steps.{Result, answered, refused, counted, counted_first, counted_second}
+use Rattle.rules.specs.Steps.{answered, counted, counted_first, counted_second}
 use Rattle.rules.proofs.Places.{entries}
 use Rattle.sets.specs.Bit.{bit, in_row}
+use Rattle.refusals.specs.Numbers.{number_of}
+use Rattle.refusals.specs.declared.Refusal.{Refusal}
 use Rattle.state.specs.Slices.{Slices, slices}
+use Rattle.state.specs.declared.Session.{Session}
 use Rattle.state.specs.declared.Rule.{Rule}
 use Rattle.state.specs.declared.Rule.TheVariants.{XGranted, XWaiting, CounterBehind}
 use Rattle.state.specs.declared.Cause.{Cause}
 use Rattle.state.specs.declared.Verdict.{Verdict}
 use Rattle.state.specs.declared.Verdict.TheVariants.{Valid, Invalid}
 use Rattle.state.specs.declared.Answer.{Answer}
-use Rattle.state.specs.declared.Answer.TheVariants.{Accepted, Content, Took, Commits, CommitsLater, SecondRun, Recommits, Refused}
+use Rattle.state.specs.declared.Answer.TheVariants.{Accepted, Content, Took, Commits, CommitsLater, SecondRun, Recommits}
 
 -- ---- Numbers and members as the rules' terms
 
@@ -175,6 +178,13 @@ shown m x tally = record {
   tally = tally;
 }
 
+-- a session's tables, and the state that it shows
+abbrev pub tables : Session → Slices
+tables x = slices x.bytes.now x.sets.now x.queues.now x.value.now x.seen.now x.sheets.now
+
+abbrev pub shown_by : Session → Tally → State
+shown_by x = shown x.m (tables x)
+
 abbrev pub no_tally : Tally
 no_tally = record { accepted = 0; from_first = 0; from_second = 0 }
 
@@ -199,8 +209,8 @@ abbrev pub verdict_of : Verdict → rules.Verdict
 verdict_of Valid = rules.valid
 verdict_of (Invalid c) = rules.invalid (cause_of c)
 
--- the paper's value or refusal number of each answer
-abbrev pub result_of : Answer → Result
+-- the paper's value of each answer
+abbrev pub result_of : Answer → rules.Result
 result_of Accepted = answered rules.accepted
 result_of (Content v) = answered (rules.content_is v)
 result_of (Took t v) = answered (rules.took t (verdict_of v))
@@ -208,7 +218,11 @@ result_of Commits = answered rules.commits
 result_of CommitsLater = answered rules.commits
 result_of SecondRun = answered rules.second_run
 result_of Recommits = answered rules.accepted
-result_of (Refused n) = refused n
+
+-- the same of a command's result, or its refusal number
+abbrev pub result_in : Result Answer Refusal → rules.Result
+result_in (Ok a) = result_of a
+result_in (Err r) = rules.refused (number_of r)
 
 -- the tally, advanced by an answer
 abbrev pub advanced : Tally → Answer → Tally
@@ -219,4 +233,8 @@ advanced a Commits = counted_first a
 advanced a CommitsLater = counted_second a
 advanced a SecondRun = counted a
 advanced a Recommits = counted_second a
-advanced a (Refused n) = a
+
+-- by a command's result: a refusal leaves it
+abbrev pub advanced_in : Tally → Result Answer Refusal → Tally
+advanced_in a (Ok b) = advanced a b
+advanced_in a (Err r) = a

@@ -1,20 +1,18 @@
-// A session's state as slices, which are lent to the commands in one order and changed in place: `b`, `s`, `q`, `value`, `seen`, `w`. They are as long
-// as the session's number of sheets, m, asks, or longer.
-//
-// The bytes `b` have phases, failed marks and runs by save, the node count, and the save at each place of the order. `s` has sets of sheets, one
-// to a row of words: word j of a row stands in block j and has the sheets from 64 * j on. `q` has the numbers of places, then sets of saves: those
-// placed before each save, all that are placed, and by sheet the queue and the X in it. `value` and `seen` have a row of m for each save, with the
-// contents of its copies and the WCTs seen; `w` has the sheets' contents, then their WCTs.
+// A session's state: tables that it is lent, which the commands change in place. They are as long as its number of sheets, m, asks, or longer.
 #![tactic(auto)]
 
 ghost use Rattle.std.specs.Prelude.{◌+◌, ◌*◌, ◌/◌, ◌%◌, ◌≤◌, ◌<◌, ◌≡◌, ◌||◌, eqb, length, get_or, set};
+ghost use Rattle.refusals.specs.Numbers.{number_of};
 ghost use Rattle.sets.specs.Bit.{bit, word, in_row, stride, blocks};
 ghost use Rattle.state.specs.Slices.{slices};
-ghost use Rattle.state.specs.View.{out_of_phase, rows};
+ghost use Rattle.state.specs.View.{out_of_phase, rows, tables};
+ghost use Rattle.state.specs.Asked.{Indexed, InRun};
 ghost use Rattle.state.specs.Stored.{Stored};
-ghost use Rattle.state.specs.Starts.{Blank, Starts};
+ghost use Rattle.state.specs.Starts.{Blank, Starts, Holds};
 
-// The phases of a save.
+use refusals::Refusal;
+
+// The phases of a save. They stay numbers: the table of bytes that a session is lent has them.
 pub const UNUSED: u8 = 0;
 
 pub const FIRST_RUN: u8 = 1;
@@ -27,10 +25,25 @@ pub const COMMITTED: u8 = 4;
 
 pub const DROPPED: u8 = 5;
 
+// A session's tables and its number of sheets. They are lent, so that a caller that shows them still has them when the session ends.
 #[derive(Drop)]
-pub struct Session {}
+pub struct Session<'a> {
+    // Phases, failed marks and runs by save, the node count, then the save at each place of the order.
+    pub bytes: &'a mut [u8],
+    // Sets of sheets, one to a row of words: word j of a row stands in block j and has the sheets from 64 * j on.
+    pub sets: &'a mut [u64],
+    // The numbers of places, then sets of saves: those placed before each save, all that are placed, and by sheet the queue and the X in it.
+    pub queues: &'a mut [u64],
+    // A row of m for each save: the contents of its copies.
+    pub value: &'a mut [u32],
+    // A row of m for each save: the WCTs seen.
+    pub seen: &'a mut [u16],
+    // The sheets' contents, then their WCTs.
+    pub sheets: &'a mut [u32],
+    pub m: usize,
+}
 
-impl Session {
+impl<'a> Session<'a> {
     // At most so many of each in one session.
     pub const NODES: usize = limits::MAX_NODES;
 
@@ -96,7 +109,7 @@ impl Session {
     // A row for each save with a column for each sheet.
     pub const COPIES: usize = Session::SAVES * Session::SHEETS;
 
-    // The rows of `w`.
+    // The rows of `sheets`.
     pub const CONTENT: usize = 0;
 
     pub const WCT: usize = 1;
@@ -104,29 +117,29 @@ impl Session {
     pub const STORE: usize = 2 * Session::SHEETS;
 }
 
-// Why a save fails at a sheet.
-#[derive(Clone, Copy)]
+// Why a save fails at a sheet, by the numbers that a host is told.
+#[derive(Clone, Copy, Debug, PartialEq, Eq)]
 pub enum Rule {
-    XGranted,
-    XWaiting,
-    CounterBehind,
+    XGranted = 1,
+    XWaiting = 2,
+    CounterBehind = 3,
 }
 
-#[derive(Clone, Copy)]
+#[derive(Clone, Copy, Debug, PartialEq, Eq)]
 pub struct Cause {
     pub sheet: usize,
     pub rule: Rule,
 }
 
-// What a node finds a save at its TAKE: where it is invalid, the first cause that the node met.
-#[derive(Clone, Copy)]
+// What a node finds a save at its TAKE: where it is invalid, the first cause that the node met. Document 01 names a verdict as an enum of its own.
+#[derive(Clone, Copy, Debug, PartialEq, Eq)]
 pub enum Verdict {
     Valid,
     Invalid(Cause),
 }
 
 // `CommitsLater` is a DECIDE of a save that has run again, `Recommits` a later run's SUBMIT that is accepted and commits: the tally tells them.
-#[derive(Clone, Copy)]
+#[derive(Clone, Copy, Debug, PartialEq, Eq)]
 pub enum Answer {
     Accepted,
     Content(u32),
@@ -135,7 +148,6 @@ pub enum Answer {
     CommitsLater,
     SecondRun,
     Recommits,
-    Refused(u8),
 }
 
 // A save of phase p is in its first run or a later one.
@@ -149,19 +161,40 @@ pub fn running(p: u8) -> bool
 }
 
 // What a save of phase p is refused with by a command that this phase does not allow.
-pub fn out_of_phase(p: u8) -> u8
-    ensures { result ≡ out_of_phase p }
+#[tactic(auto, unfolding(crate::specs::View::out_of_phase))]
+pub fn out_of_phase(p: u8) -> Refusal
+    ensures { number_of result ≡ out_of_phase p }
 {
     if p == UNUSED {
-        return 13;
+        return Refusal::NotBegun;
     }
     if COMMITTED <= p {
-        return 14;
+        return Refusal::Finished;
     }
-    5
+    Refusal::WrongPhase
 }
 
-// ---- Sets of sheets
+// The row of save t in every table, or that there is no such save.
+pub fn save_index(t: u8) -> Result<usize, Refusal>
+    ensures { Indexed t result }
+{
+    if Session::SAVE_NUMBERS <= t {
+        return Err(Refusal::OutOfRange);
+    }
+    Ok(t as usize)
+}
+
+// A save of phase p is in a run, or refused.
+pub fn in_run(p: u8) -> Result<(), Refusal>
+    ensures { InRun p result }
+{
+    if running(p) {
+        return Ok(());
+    }
+    Err(out_of_phase(p))
+}
+
+// ---- Sets of sheets. What uses one table is lent that one and not the session: its type then says that the others stay.
 
 // How many blocks m sheets have.
 pub fn blocks(m: usize) -> usize
@@ -199,6 +232,7 @@ fn block(s: &[u64], k: usize) -> usize
 }
 
 // Sheet k is in the set of row i.
+#[tactic(auto, unfolding(sets::specs::Bit::in_row))]
 pub fn member(s: &[u64], i: usize, k: usize) -> bool
     requires { (i < rows) × (i + stride * (k / 64) < length s.now) }
     ensures { result ≡ in_row s.now i k }
@@ -237,28 +271,36 @@ pub fn set_cell(l: &mut [u32], m: usize, x: usize, k: usize, v: u32)
 
 // ---- The start
 
-impl Session {
-    // New nodes with these sheets, each with its owner, and no save used: what slices of zeros become.
+impl<'a> Session<'a> {
+    // New nodes with these sheets, each with its owner, and no save used: what tables of zeros become.
     pub fn fresh(
-        b: &mut [u8],
-        s: &mut [u64],
-        q: &[u64],
-        value: &[u32],
-        seen: &[u16],
-        w: &[u32],
+        bytes: &'a mut [u8],
+        sets: &'a mut [u64],
+        queues: &'a mut [u64],
+        value: &'a mut [u32],
+        seen: &'a mut [u16],
+        sheets: &'a mut [u32],
         nodes: u8,
         owners: &[u8],
-    )
-        requires { Blank (length owners.now) (slices b.old s.old q.now value.now seen.now w.now) × ((k : _) → get_or owners.now k 0 < 8) }
-        ensures { Starts nodes owners.now (slices b.new s.new q.now value.now seen.now w.now) }
+    ) -> Session<'a>
+        requires { Blank (length owners.now) (slices bytes.old sets.old queues.old value.old seen.old sheets.old) × ((k : _) → get_or owners.now k 0 < 8) }
+        ensures same_references { Holds result bytes.entry sets.entry queues.entry value.entry seen.entry sheets.entry }
+        ensures starts { (result.m ≡ length owners.now) × Starts nodes owners.now (tables result) }
+        ensures untouched { (result.queues.now ≡ queues.old) × (result.value.now ≡ value.old) × (result.seen.now ≡ seen.old) × (result.sheets.now ≡ sheets.old) }
     {
-        b[Session::NODE_COUNT] = nodes;
+        bytes[Session::NODE_COUNT] = nodes;
         let m = owners.len();
-        let mut k: usize = 0;
-        while k < m {
-            let n = owners[k] as usize;
-            insert(s, Session::OWNED + n, k);
-            k += 1;
+        for k in 0..m {
+            insert(sets, Session::OWNED + owners[k] as usize, k);
+        }
+        Session {
+            bytes,
+            sets,
+            queues,
+            value,
+            seen,
+            sheets,
+            m,
         }
     }
 }

@@ -14,13 +14,13 @@ use Rattle.rules.specs.Showing.{state_text, state_call}
 use Rattle.rules.proofs.Sessions.{Final, final}
 use Rattle.text.specs.Wrote.{Wrote}
 use Rattle.text.proofs.Writing.{wrote_as, wrote_front}
-use Rattle.state.specs.Slices.{Slices}
-use Rattle.state.specs.View.{shown}
+use Rattle.state.specs.declared.Session.{Session}
+use Rattle.state.specs.View.{tables, shown_by}
 use Rattle.tally.specs.Figures.{figures}
 use Rattle.session.specs.declared.Walked.{Walked}
 use Rattle.session.specs.Carried.{Carried}
 use Rattle.showing.specs.Shows.{Shows, text_room}
-use Rattle.wire.specs.declared.Opened.TheVariants.{Bad}
+use Rattle.std.specs.Prelude.{None}
 use Rattle.wire.specs.Meaning.{opened}
 use Rattle.wire.proofs.Opening.{unopened}
 use Rattle.codes.specs.Codes.{coded, told_call, fitted}
@@ -49,21 +49,21 @@ text_short m h w = omega (arith, w.short)
 
 -- ---- The walk's state
 
-module _ {b : List ℕ} (o : opens b ≡ true) {m : ℕ} {x : Slices} {r : Walked} (v : Carried b m x r) where
-  pub shows : m ≤ max_sheets → Shows m x
+module _ {b : List ℕ} (o : opens b ≡ true) (x : Session) {r : Walked} (v : Carried b x.m (tables x) r) where
+  pub shows : x.m ≤ max_sheets → Shows x
   shows h = record { ready = v.ready; values = v.fit.value; seens = v.fit.seen; stored = v.fit.sheets; few = h }
 
-  pub called : (room : List ℕ) → fitted (state_text (shown m x (figures r.tally))) room ≡ state_call b room
+  pub called : (room : List ℕ) → fitted (state_text (shown_by x (figures r.tally))) room ≡ state_call b room
   unfolding state_call final
   called room = sym (rw o (ap (λ f. fitted (state_text f.state) room) v.same))
 
-  pub short_so : length (state_text (shown m x (figures r.tally))) ≤ max_state → ShortText b
+  pub short_so : length (state_text (shown_by x (figures r.tally))) ≤ max_state → ShortText b
   unfolding final
   short_so h _ = rw (← ap (λ (f : Final). f.state) v.same) at h
 
 -- ---- A session that earns refusal 1
 
-module _ (b : List ℕ) (e : Bad ≡ opened b) where
+module _ (b : List ℕ) (e : opened b ≡ None) where
   pub no_state : {room : List ℕ} {code : ℕ} → code ≡ coded 7 0 1 → (record { code = code; room = room } ≡ told_call (state_call b room)) × (outcome_in code ≡ (state_call b room).outcome)
   unfolding state_call outcome_in
   no_state k = rw (k, unopened b e) (refl, refl)

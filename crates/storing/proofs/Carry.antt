@@ -10,12 +10,13 @@ use native.Mathlib.Nat.{zero-add}
 use lib.ListN.{get_or, set, length-set}
 use lib.Seq.{get_or-set_same, get_or-set_other}
 use lib.Dec.{eqb}
+use Rattle.std.specs.Int.{from_bool}
 use borrow.Author.Tests.{eq-eqb, ne_eqb, lt-ltb, le-ltb}
 use Rattle.rules.specs.State.{Sheet, store}
 use Rattle.rules.proofs.Table.{same?, below?}
 use Rattle.sets.specs.Bit.{bit, low, Rest, word, blocks}
 use Rattle.sets.specs.Loop.{Over, done, of_block, before_block}
-use Rattle.sets.proofs.Loops.{block_of, over_first, low_small, over_on, done_none, done_all, not_done, done_more, before_first, next_block}
+use Rattle.sets.proofs.Loops.{block_of, over_first, low_small, over_on, done_none, done_all, not_done, done_more, next_block}
 use Rattle.state.specs.View.{part}
 use Rattle.state.specs.Fit.{Table, Rising}
 use Rattle.state.proofs.Parts.{part_in, part_past}
@@ -47,13 +48,13 @@ module _ (m : ℕ) (w : List ℕ) (k v c : ℕ) (km : k < m) (fits : Table 2 m w
   wct_there i h d = part_in m m w₂ i h ∙ get_or-set_other w₁ k (m + i) v 0 (λ e. omega arith) ∙ get_or-set_other w (m + k) (m + i) c 0 (λ e. d (omega arith)) ∙ sym (part_in m m w i h)
 
 -- the mark is the rules' rise
-marked : (u v c : ℕ) → c + cond (not (eqb u v)) 1 0 ≡ cond (eqb v u) c (suc c)
+marked : (u v c : ℕ) → c + from_bool (not (eqb u v)) ≡ cond (eqb v u) c (suc c)
 marked u v c = same? u v
     (λ e. rw (eq-eqb u v e, eq-eqb v u (sym e)) (omega arith))
     (λ d. rw (ne_eqb u v d, ne_eqb v u (λ e. d (sym e))) (omega arith))
 
 -- by the code's content v and mark g
-pub received_at : (m t k : ℕ) (value w : List ℕ) {v g : ℕ} → k < m → Table 2 m w → v ≡ get_or value (t * m + k) 0 → g ≡ cond (not (eqb (get_or w k 0) v)) 1 0
+pub received_at : (m t k : ℕ) (value w : List ℕ) {v g : ℕ} → k < m → Table 2 m w → v ≡ get_or value (t * m + k) 0 → g ≡ from_bool (not (eqb (get_or w k 0) v))
     → Received m t value (λ i. eqb i k) w (set (set w (m + k) (get_or w (m + k) 0 + g)) k v)
 received_at m t k value w {v} {g} km fits ev eg = record {
   long = rw (length-set, length-set);
@@ -65,9 +66,13 @@ received_at m t k value w {v} {g} km fits ev eg = record {
     c : ℕ
     c = get_or w (m + k) 0 + g
 
+at_most_one : (b : Bool) → from_bool b ≤ 1
+at_most_one true = omega arith
+at_most_one false = omega arith
+
 -- a counter with room for a mark
-pub can_rise : (m k : ℕ) (w : List ℕ) {g : ℕ} → k < m → part m m w k < 65535 → g ≤ 1 → get_or w (m + k) 0 + g < 4294967296
-can_rise m k w km h l = let z = rw (part_in m m w k km) at h in omega arith
+pub can_rise : (m k : ℕ) (w : List ℕ) {g : ℕ} (b : Bool) → k < m → part m m w k < 65535 → g ≡ from_bool b → get_or w (m + k) 0 + g < 4294967296
+can_rise m k w b km h e = let z = rw (part_in m m w k km) at h in omega (arith, at_most_one b)
 
 -- ---- None, and some and others
 
@@ -127,9 +132,6 @@ module _ {m t j ours : ℕ} {value w₀ w : List ℕ} {left : ℕ} (g : Storing 
 
 pub record Carried (m t a b : ℕ) (s value w₀ w : List ℕ) (j : ℕ) : Type 0 where
   pub got : Received m t value (before_block j (common s a b)) w₀ w
-
-pub carried_first : (m t a b : ℕ) (s value w : List ℕ) → Carried m t a b s value w w 0
-carried_first m t a b s value w = record { got = received_none w (λ k _. before_first (common s a b) k) }
 
 module _ {m t a b : ℕ} {s value w₀ w : List ℕ} {j : ℕ} (g : Carried m t a b s value w₀ w j) where
   pub rises_on : Rising m w₀ → RisingIn m j w

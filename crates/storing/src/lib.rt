@@ -1,7 +1,7 @@
 // The sheets of a node receive what a save wrote, and their WCTs rise where a content changes.
 #![tactic(auto)]
 
-ghost use Rattle.std.specs.Prelude.{◌+◌, ◌*◌, ◌≤◌, ◌<◌, ◌≡◌, ◌&&◌, cond, length, eqb};
+ghost use Rattle.std.specs.Prelude.{◌+◌, ◌*◌, ◌≤◌, ◌<◌, ◌&&◌, length, eqb};
 ghost use Rattle.sets.specs.Bit.{bit, in_row, stride, blocks};
 ghost use Rattle.sets.specs.Loop.{of_block, Inside};
 ghost use Rattle.state.specs.View.{part, rows, OWNED, WRITTEN};
@@ -10,22 +10,13 @@ ghost use Rattle.storing.specs.Carry.{Received, RisingIn};
 
 use state::Session;
 
-// What APPLY adds to a sheet's WCT: 1, if the content changes, and 0 otherwise.
-fn wct_mark(g: bool) -> u32
-    ensures value { result ≡ cond g 1 0 }
-    ensures bit { result ≤ 1 }
-{
-    g as u32
-}
-
-// Sheet k receives save t's content, and its WCT has its mark added.
+// Sheet k receives save t's content, and its WCT has its mark added: 1, if the content changes.
 fn store_sheet(value: &[u32], w: &mut [u32], m: usize, t: usize, k: usize)
     requires { Table 32 m value.now × Table 2 m w.old × (m < 65536) × (t < 32) × (k < m) × (part m m w.old k < 65535) }
     ensures { Received m t value.now (λ i. eqb i k) w.old w.new }
 {
     let v = state::cell(value, m, t, k);
-    let u = w[k];
-    w[m + k] = w[m + k] + wct_mark(u != v);
+    w[m + k] += u32::from(w[k] != v);
     w[k] = v;
 }
 
@@ -34,26 +25,20 @@ fn store_block(value: &[u32], w: &mut [u32], m: usize, t: usize, j: usize, ours:
     requires { Table 32 m value.now × Table 2 m w.old × (m < 65536) × (t < 32) × (j < blocks m) × Inside m j ours × RisingIn m j w.old }
     ensures { Received m t value.now (of_block j (bit ours)) w.old w.new }
 {
-    let mut left = ours;
-    while left != 0 {
-        let k = 64 * j + sets::lowest(left);
-        store_sheet(value, w, m, t, k);
-        left = sets::rest(left);
+    for i in sets::members(ours) {
+        store_sheet(value, w, m, t, 64 * j + i);
     }
 }
 
-// The sheets of node n that save t wrote receive its contents.
+// The sheets of node n that save t wrote receive its contents. Three tables and not the session: two of them stay.
 pub fn carry_out(s: &[u64], value: &[u32], w: &mut [u32], m: usize, n: usize, t: usize)
     requires { (stride * blocks m + rows ≤ length s.now + stride) × Table 32 m value.now × Table 2 m w.old × (m < 65536) × (n < 8) × (t < 32)
         × Ends m s.now × Rising m w.old }
     ensures { Received m t value.now (λ k. in_row s.now (OWNED + n) k && in_row s.now (WRITTEN + t) k) w.old w.new }
 {
-    let all = state::blocks(m);
-    let mut j: usize = 0;
-    while j < all {
+    for j in 0..state::blocks(m) {
         let owned = state::word(s, Session::OWNED + n, j);
         let ours = sets::both(owned, state::word(s, Session::WRITTEN + t, j));
         store_block(value, w, m, t, j, ours);
-        j += 1;
     }
 }

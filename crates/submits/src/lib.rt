@@ -5,10 +5,11 @@ ghost use Rattle.std.specs.Prelude.{◌+◌, ◌*◌, ◌≤◌, ◌<◌, ◌≡
 ghost use Rattle.rules.specs.Bytes.{Submit};
 ghost use Rattle.sets.specs.Bit.{bit, stride, blocks};
 ghost use Rattle.state.specs.View.{rows};
-ghost use Rattle.state.specs.Fit.{Sets, Ready};
-ghost use Rattle.state.specs.Lent.{saving, Moves, Keeps};
+ghost use Rattle.state.specs.Fit.{Sets, ReadyIn};
+ghost use Rattle.state.specs.Lent.{saving, Only, Moves, Keeps};
 ghost use Rattle.submits.specs.Wide.{asks, wide_in};
 
+use refusals::Refusal;
 use state::{Answer, COMMITTED, FIRST_RUN, SECOND_RUN, Session};
 
 // What the copies of block j ask for beyond save t's claim.
@@ -32,44 +33,39 @@ pub fn is_wide(s: &[u64], m: usize, t: usize) -> bool
     requires { (stride * blocks m + rows ≤ length s.now + stride) × (m < 65536) × (t < 32) × Sets m s.now }
     ensures { result ≡ wide_in m s.now t }
 {
-    let n = state::blocks(m);
-    let mut j: usize = 0;
-    while j < n {
+    for j in 0..state::blocks(m) {
         if beyond(s, t, j) != 0 {
             return true;
         }
-        j += 1;
     }
     false
 }
 
 // First run: the save joins the end of the order with its claim. A later run: where it is wide, it leaves its place and joins again with a
 // larger claim; else it is committed.
-pub fn submit(b: &mut [u8], s: &mut [u64], q: &mut [u64], m: usize, t: u8) -> Answer
-    requires { Ready m b.old s.old q.old }
-    ensures moves { Moves m (saving b.old s.old q.old) (Submit t) (saving b.new s.new q.new) result }
-    ensures kept { Keeps m (saving b.old s.old q.old) (saving b.new s.new q.new) }
+pub fn submit(x: &mut Session, t: u8) -> Result<Answer, Refusal>
+    requires { ReadyIn x.old }
+    ensures moves { Moves x.old (Submit t) x.new result }
+    ensures kept { Keeps x.old x.new }
+    ensures only { Only (saving x.new.bytes.now x.new.sets.now x.new.queues.now) x.old x.new }
 {
-    if Session::SAVE_NUMBERS <= t {
-        return Answer::Refused(4);
-    }
-    let ti = t as usize;
-    let p = b[Session::PHASE + ti];
+    let i = state::save_index(t)?;
+    let p = x.bytes[Session::PHASE + i];
+    let m = x.m;
     if p == FIRST_RUN {
-        joining::join(b, s, q, m, t);
-        return Answer::Accepted;
+        joining::join(x.bytes, x.sets, x.queues, m, t);
+        return Ok(Answer::Accepted);
     }
-    if p == SECOND_RUN {
-        let w = is_wide(s, m, ti);
-        if w {
-            leaving::leave(s, q, m, ti, Session::HELD + ti);
-            joining::give_place(q, ti);
-            joining::join(b, s, q, m, t);
-            return Answer::Accepted;
-        }
-        b[Session::PHASE + ti] = COMMITTED;
-        return Answer::Recommits;
+    if p != SECOND_RUN {
+        return Err(state::out_of_phase(p));
     }
-    let r = state::out_of_phase(p);
-    Answer::Refused(r)
+    let sets = &mut *x.sets;
+    if is_wide(sets, m, i) {
+        leaving::leave(x.sets, x.queues, m, i, Session::HELD + i);
+        joining::give_place(x.queues, i);
+        joining::join(x.bytes, x.sets, x.queues, m, t);
+        return Ok(Answer::Accepted);
+    }
+    x.bytes[Session::PHASE + i] = COMMITTED;
+    Ok(Answer::Recommits)
 }

@@ -18,10 +18,13 @@ use Rattle.sets.specs.Bit.{bit}
 use Rattle.state.specs.Slices.{Slices}
 use Rattle.state.specs.View.{part, placed, place_in, order_in, shown, no_tally, NODES, ORDER, PLACE, TAKEN}
 use Rattle.state.specs.Fit.{Last, Kept, Ready}
-use Rattle.state.specs.Lent.{taking, Moves, Keeps}
+use Rattle.state.specs.Lent.{taking}
+use Rattle.state.proofs.Lending.{Moves, Keeps}
 use Rattle.state.specs.declared.Verdict.{Verdict}
 use Rattle.state.specs.declared.Verdict.TheVariants.{Valid}
-use Rattle.state.specs.declared.Answer.TheVariants.{Took, Refused}
+use Rattle.std.specs.Prelude.{Ok, Err}
+use Rattle.refusals.specs.declared.Refusal.TheVariants.{OutOfRange, AllTaken}
+use Rattle.state.specs.declared.Answer.TheVariants.{Took}
 use Rattle.state.proofs.Keeping.{placed_same, place_same}
 use Rattle.state.proofs.Known.{small, order_length}
 use Rattle.state.proofs.Parts.{part_in, part_set}
@@ -35,7 +38,7 @@ pub keeps : {m : ℕ} {b s q seen w b' s' q' : List ℕ} → Kept m b' s' q' →
 keeps k x f = record { kept = k; value = f.value; seen = f.seen; sheets = f.sheets }
 
 module _ {m : ℕ} {b s q : List ℕ} (r : Ready m b s q) (seen w : List ℕ) (n : ℕ) where
-  pub out_node : get_or b NODES 0 ≤ n → Moves m (taking b s q seen w) (Take n) (taking b s q seen w) (Refused 4)
+  pub out_node : get_or b NODES 0 ≤ n → Moves m (taking b s q seen w) (Take n) (taking b s q seen w) (Err OutOfRange)
   out_node h x = refused (λ tally. rw (le-ltb n (get_or b NODES 0) h))
 
   module _ (nn : n < get_or b NODES 0) where
@@ -45,7 +48,7 @@ module _ {m : ℕ} {b s q : List ℕ} (r : Ready m b s q) (seen w : List ℕ) (n
     count : part TAKEN 8 q n ≡ get_or q (TAKEN + n) 0
     count = part_in TAKEN 8 q n node8
 
-    pub out_places : placed q ≤ get_or q (TAKEN + n) 0 → Moves m (taking b s q seen w) (Take n) (taking b s q seen w) (Refused 9)
+    pub out_places : placed q ≤ get_or q (TAKEN + n) 0 → Moves m (taking b s q seen w) (Take n) (taking b s q seen w) (Err AllTaken)
     out_places h x = refused (λ tally. rw (lt-ltb n (get_or b NODES 0) nn, order_length r.kept.sized, count, le-ltb (get_or q (TAKEN + n) 0) (placed q) h))
 
     module _ {p t : ℕ} (ep : p ≡ get_or q (TAKEN + n) 0) (next : p < placed q) (et : t ≡ get_or b (ORDER + p) 0) where
@@ -70,7 +73,7 @@ module _ {m : ℕ} {b s q : List ℕ} (r : Ready m b s q) (seen w : List ℕ) (n
       next_here : (x : Slices) → rules.next (shown m (taking b s q seen w x) no_tally) n ≡ t
       next_here x = rw count_p (get_or-take (placed q) (order_in b) p 0 next ∙ here)
 
-      pub moves_former : get_or q (PLACE + t) 0 ≢ p → Moves m (taking b s q seen w) (Take n) (taking b s q₁ seen w) (Took t Valid)
+      pub moves_former : get_or q (PLACE + t) 0 ≢ p → Moves m (taking b s q seen w) (Take n) (taking b s q₁ seen w) (Ok (Took t Valid))
       moves_former d x =
           let f : next_is_last (shown m (taking b s q seen w x) no_tally) n ≡ false = rw (next_here x) (rw (count_p, place_at) (ne_eqb (get_or q (PLACE + t) 0) p d)) in
           let e = apart q n (p + 1) node8 in
@@ -94,7 +97,7 @@ module _ {m : ℕ} {b s q : List ℕ} (r : Ready m b s q) (seen w : List ℕ) (n
         last_before = taking_last.last₁ r n t p node8 save32 count_p next here last
 
         module _ {b' s' q' : List ℕ} {v : Verdict} (tk : Taken m n t b s q₁ seen w b' s' q' v) where
-          pub moves_last : Moves m (taking b s q seen w) (Take n) (taking b' s' q' seen w) (Took t v)
+          pub moves_last : Moves m (taking b s q seen w) (Take n) (taking b' s' q' seen w) (Ok (Took t v))
           moves_last x = taking_last.moves_last r n t p node8 save32 count_p next here last seen w x tk nn
 
           pub kept_last : Kept m b' s' q'

@@ -19,6 +19,7 @@ use Rattle.state.proofs.Known.{x_queued}
 use Rattle.state.proofs.Parts.{part_in, queue_in, queue_x_in}
 use Rattle.queues.specs.Front.{Ranked, fronted}
 use Rattle.queues.proofs.Fronts.{fronted_same, ranked_within}
+use Rattle.std.specs.Prelude.{Option, None, Some}
 use Rattle.entering.specs.Enter.{Entered, ours, ours_x, Rowing}
 use Rattle.takes.specs.Take.{RuleAt, Taken}
 use Rattle.takes.proofs.Keeping.{kept_entered}
@@ -48,7 +49,7 @@ module _ (q : List ℕ) (m t k : ℕ) (t32 : t < 32) (km : k < m) (a x : ℕ) (e
 
 -- ---- From the loops' end
 
-module _ {m n t : ℕ} {seen w s s' q q' : List ℕ} {first : ℕ} (g : Rowing m n t seen w s s' q q' first (blocks m)) (b : List ℕ) where
+module _ {m n t : ℕ} {seen w s s' q q' : List ℕ} {first : Option ℕ} (g : Rowing m n t seen w s s' q q' first (blocks m)) where
   all_blocks : Entered m t (ours s n t) (ours_x s n t) q q'
   all_blocks = record {
     long = g.entered.long;
@@ -57,26 +58,22 @@ module _ {m n t : ℕ} {seen w s s' q q' : List ℕ} {first : ℕ} (g : Rowing m
     rest = g.entered.rest;
   }
 
-  pub taken_valid : m ≤ first → Taken m n t b s q seen w b s' q' Valid
-  taken_valid h = record { entered = all_blocks; held = g.held; finds = (refl, λ k l. g.found.lower k l (omega arith) (omega arith)) }
+module _ {m n t : ℕ} {seen w s s' q q' : List ℕ} (b : List ℕ) where
+  pub taken_valid : Rowing m n t seen w s s' q q' None (blocks m) → Taken m n t b s q seen w b s' q' Valid
+  taken_valid g = record { entered = all_blocks g; held = g.held; finds = (refl, λ k l. g.found k l (omega arith)) }
 
-  pub taken_invalid : first < m → (r : Rule) → RuleAt q' t first r → Taken m n t b s q seen w (set b (FAILED + t) 1) s' q' (Invalid (record { sheet = first; rule = r }))
-  taken_invalid h r e = record {
-    entered = all_blocks;
-    held = g.held;
-    finds = (refl, h, g.found.there h, λ k l. g.found.lower k (omega arith) (omega arith) l, e);
-  }
+  module _ {f : ℕ} (g : Rowing m n t seen w s s' q q' (Some f) (blocks m)) where
+    pub taken_invalid : (r : Rule) → RuleAt q' t f r → Taken m n t b s q seen w (set b (FAILED + t) 1) s' q' (Invalid (record { sheet = f; rule = r }))
+    taken_invalid r e = record {
+      entered = all_blocks g;
+      held = g.held;
+      finds = (refl, g.found.here, g.found.passes, g.found.lower, e);
+    }
 
-  -- what the rule's test asks of the queue
-  module _ (kept : Kept m b s q) (t32 : t < 32) (last : Last b q t) (h : first < m) where
-    kept' : Kept m b s' q'
-    kept' = kept_entered g.held all_blocks t32 kept last
-
-    pub rule_ranked : (a : ℕ) → ((u : ℕ) → bit a u ≡ true → queued m q' first u ≡ true) → Ranked q' a
-    rule_ranked = ranked_within kept' first h
-
-    pub rule_x : (u : ℕ) → queued_x m q' first u ≡ true → queued m q' first u ≡ true
-    rule_x = x_queued kept' h
-
-    pub rule_long : QUEUE + 2 * m ≤ length q'
-    rule_long = kept'.sized.queues
+    -- what the rule's test asks of the queue
+    pub rule_asked : Kept m b s q → t < 32 → Last b q t → m < 65536 → (QUEUE + 2 * m ≤ length q') × (m < 65536) × (t < 32) × (f < m)
+        × ((a : ℕ) → ((u : ℕ) → bit a u ≡ true → queued m q' f u ≡ true) → Ranked q' a) × ((u : ℕ) → queued_x m q' f u ≡ true → queued m q' f u ≡ true)
+    rule_asked kept t32 last m16 =
+        let h = g.found.here in
+        let now = kept_entered g.held (all_blocks g) t32 kept last in
+        (now.sized.queues, m16, t32, h, ranked_within now f h, x_queued now h)

@@ -26,6 +26,7 @@ use Rattle.state.specs.Lent.{taking, Steps}
 use Rattle.state.specs.declared.Rule.{Rule}
 use Rattle.state.specs.declared.Verdict.{Verdict}
 use Rattle.state.specs.declared.Verdict.TheVariants.{Valid, Invalid}
+use Rattle.std.specs.Prelude.{Ok}
 use Rattle.state.specs.declared.Answer.TheVariants.{Took}
 use Rattle.state.proofs.Bytes.{phase_in, failed_in, Bytes, bytes_same, mark_stored, marks_same}
 use Rattle.state.proofs.Codes.{copy_code, claims_code}
@@ -200,7 +201,7 @@ module _ {m : ℕ} {b s q : List ℕ} (r : Ready m b s q) (n t p : ℕ) (n8 : n 
       last_here : next_is_last state n ≡ true
       last_here = rw next_here (eq-eqb (place_in q t) (part TAKEN 8 q n) (last ∙ sym count))
 
-      pub moves_last : n < get_or b NODES 0 → Steps (shown m (taking b s q seen w x)) (Take n) (shown m (taking b' s' q' seen w x)) (Took t v)
+      pub moves_last : n < get_or b NODES 0 → Steps (shown m (taking b s q seen w x)) (Take n) (shown m (taking b' s' q' seen w x)) (Ok (Took t v))
       moves_last nn = accepted
           (λ tally. rw (lt-ltb n (get_or b NODES 0) nn, order_length r.kept.sized, count, lt-ltb p (placed q) next))
           (λ tally. rw (last_here, next_here) (same_state

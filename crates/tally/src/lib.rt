@@ -20,19 +20,9 @@ pub fn advance(t: &mut Tally, a: u32, f: u32, s: u32)
     requires { (t.old.accepted + a < 2 ^ 32) × (t.old.first + f < 2 ^ 32) × (t.old.second + s < 2 ^ 32) }
     ensures { t.new ≡ plus t.old a f s }
 {
-    t.accepted = t.accepted + a;
-    t.first = t.first + f;
-    t.second = t.second + s;
-}
-
-// By value, as an arm of `advanced` has it.
-pub fn advanced_by(t: Tally, a: u32, f: u32, s: u32) -> Tally
-    requires { (t.accepted + a < 2 ^ 32) × (t.first + f < 2 ^ 32) × (t.second + s < 2 ^ 32) }
-    ensures { result ≡ plus t a f s }
-{
-    let mut u = t;
-    advance(&mut u, a, f, s);
-    u
+    t.accepted += a;
+    t.first += f;
+    t.second += s;
 }
 
 impl Tally {
@@ -52,15 +42,14 @@ impl Tally {
         requires { Room self }
         ensures { figures result ≡ advanced (figures self) a }
     {
+        let mut t = self;
         match a {
-            Answer::Accepted => advanced_by(self, 1, 0, 0),
-            Answer::Content(_) => advanced_by(self, 1, 0, 0),
-            Answer::Took(_, _) => advanced_by(self, 1, 0, 0),
-            Answer::Commits => advanced_by(self, 1, 1, 0),
-            Answer::CommitsLater => advanced_by(self, 1, 0, 1),
-            Answer::SecondRun => advanced_by(self, 1, 0, 0),
-            Answer::Recommits => advanced_by(self, 1, 0, 1),
-            Answer::Refused(_) => self,
+            Answer::Accepted | Answer::Content(_) | Answer::Took(_, _) | Answer::SecondRun => {
+                advance(&mut t, 1, 0, 0);
+            }
+            Answer::Commits => advance(&mut t, 1, 1, 0),
+            Answer::CommitsLater | Answer::Recommits => advance(&mut t, 1, 0, 1),
         }
+        t
     }
 }

@@ -9,7 +9,9 @@ use borrow.Author.Tests.{lt-ltb, le-ltb, ltb-true, ltb-false}
 use lib.Dec.{ltb}
 use lib.ListN.{length, length-append}
 use Rattle.rules.specs.Report.{figures, decimal}
+use Rattle.text.specs.declared.Writer.{Writer}
 use Rattle.text.specs.Wrote.{Wrote}
+use Rattle.text.specs.Writes.{Writes}
 use Rattle.text.specs.Lines.{last_two}
 use Rattle.text.proofs.Writing.{wrote_as}
 
@@ -82,3 +84,6 @@ decimal_short (suc k) n h =
 -- what was written is the number, a u32
 pub decimal_written : {l m x : List ℕ} {a b u : ℕ} (n : ℕ) → n < 2 ^ 32 → decimal n ≡ x → Wrote l a x u b m → Wrote l a (decimal n) 10 b m
 decimal_written n h e w = wrote_as (sym e) (decimal_short 9 n (omega arith)) w
+
+pub decimal_writes : {w v : Writer} {x : List ℕ} {a : ℕ} (n : ℕ) → n < 2 ^ 32 → decimal n ≡ x → Writes w v x a → Writes w v (decimal n) 10
+decimal_writes n h e p = record { same = p.same; long = p.long; wrote = decimal_written n h e p.wrote }

@@ -7,7 +7,9 @@ use native.Mathlib.Omega.{arith}
 use lib.ListN.{length, drop, length-append}
 use lib.Seq.{sets, sets-eq, length-sets}
 use Rattle.rules.specs.Report.{in_front}
+use Rattle.text.specs.declared.Writer.{Writer}
 use Rattle.text.specs.Wrote.{Wrote}
+use Rattle.text.specs.Writes.{Writes}
 
 sets_append : (xs ys l : List ℕ) (i : ℕ) → sets (sets l i xs) (i + length xs) ys ≡ sets l i (xs ++ ys)
 sets_append [] ys l i = rw add-zero
@@ -49,3 +51,28 @@ wrote_front {l} {m} {x} {b} {u} p h =
     let e : b ≡ length x = p.ends ∙ zero-add (length x) in
     let f : m ≡ x ++ drop (length x) l = p.bytes ∙ sets-eq x l 0 (omega arith) ∙ rw zero-add in
     λ i. record { size = e i; buffer = f i }
+
+-- the buffer comes back from the writer that it was lent to
+pub wrote_back : {l m k x : List ℕ} {a b u : ℕ} → Wrote l a x u b m → k ≡ m → Wrote l a x u b k
+wrote_back p e = record { ends = p.ends; bytes = e ∙ p.bytes; short = p.short }
+
+-- ---- The same of a writer
+
+-- one text and then another
+pub writes_then : {w v z : Writer} {x y : List ℕ} {a b : ℕ} → Writes w v x a → Writes v z y b → Writes w z (x ++ y) (a + b)
+writes_then p q = record { same = q.same ∙ p.same; long = q.long ∙ p.long; wrote = wrote_then p.wrote q.wrote }
+
+pub writes_none : (w : Writer) → Writes w w [] 0
+writes_none w = record { same = refl; long = refl; wrote = wrote_none w.buf.now w.at }
+
+-- the same text under another name, with a room of its own
+pub writes_as : {w v : Writer} {x y : List ℕ} {a b : ℕ} → x ≡ y → length y ≤ b → Writes w v x a → Writes w v y b
+writes_as e h p = record { same = p.same; long = p.long; wrote = wrote_as e h p.wrote }
+
+-- one line more, in a room for all
+pub writes_next : {w v u : Writer} {x y z : List ℕ} {a b c : ℕ} → x ++ y ≡ z → Writes w v x a → Writes v u y b → a + b ≤ c → Writes w u z c
+writes_next e p q h = record { same = q.same ∙ p.same; long = q.long ∙ p.long; wrote = wrote_next e h p.wrote q.wrote }
+
+-- nothing to write
+pub writes_nothing : {x : List ℕ} {a : ℕ} (w : Writer) → x ≡ [] → Writes w w x a
+writes_nothing w e = writes_as (sym e) (rw e (omega arith)) (writes_none w)

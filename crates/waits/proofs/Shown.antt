@@ -82,11 +82,11 @@ rising_same f g zero h = refl
 rising_same f g (suc n) h = rw (h n (omega arith), rising_same f g n (λ k l. h k (omega arith)))
 
 -- a sheet's lines as they are written
-abbrev pub queue_in_line : (q line : List ℕ) (n k : ℕ) → List ℕ
-queue_in_line q line n k = lines_behind (bit (get_or q (QUEUE + 2 * k + 1) 0)) k [] (those (bit (get_or q (QUEUE + 2 * k) 0)) (take n line))
+abbrev pub queue_in_line : (q line : List ℕ) (k : ℕ) → List ℕ
+queue_in_line q line k = lines_behind (bit (get_or q (QUEUE + 2 * k + 1) 0)) k [] (those (bit (get_or q (QUEUE + 2 * k) 0)) line)
 
 module _ (m : ℕ) (b s q : List ℕ) {line : List ℕ} {n : ℕ} (l : Lined b q (placed q) line n) (c : Claimed m s q) where
-  one_shown : (k : ℕ) → k < m → queue_in_line q line n k ≡ queue_text (bare m b s q) k
+  one_shown : (k : ℕ) → k < m → queue_in_line q (take n line) k ≡ queue_text (bare m b s q) k
   one_shown k h =
       let f = bit (get_or q (QUEUE + 2 * k) 0) in
       sym (queue_same (bare m b s q) k (order_in b) (place_in q) f (bit (get_or q (QUEUE + 2 * k + 1) 0)) (placed q)
@@ -94,6 +94,6 @@ module _ (m : ℕ) (b s q : List ℕ) {line : List ℕ} {n : ℕ} (l : Lined b q
       (λ u y. c u k h (ap (λ (a : ℕ). bit a u) (queue_in m q k h) ∙ y) ∙ ap (λ (a : ℕ). claim_of true (bit a u)) (queue_x_in m q k h))
       ∙ rw (← those_last (order_in b) (place_in q) f (placed q), ← l.all))
 
-  pub shown : rising (queue_in_line q line n) m ≡ queue_lines (bare m b s q)
+  pub shown : rising (queue_in_line q (take n line)) m ≡ queue_lines (bare m b s q)
   unfolding queue_lines
-  shown = rising_same (queue_in_line q line n) (queue_text (bare m b s q)) m one_shown
+  shown = rising_same (queue_in_line q (take n line)) (queue_text (bare m b s q)) m one_shown

@@ -2,81 +2,83 @@
 // saves whose entries stand in its way.
 #![tactic(auto)]
 
-ghost use Rattle.std.specs.Prelude.{[], ◌+◌, ◌*◌, ◌<◌, ◌≤◌, length, get_or, take};
+ghost use Rattle.std.specs.Prelude.{[], ◌+◌, ◌*◌, ◌<◌, ◌≤◌, length, get_or};
 ghost use Rattle.rules.specs.Showing as rules;
 ghost use Rattle.sets.specs.Bit.{bit};
-ghost use Rattle.text.specs.Wrote.{Wrote};
 ghost use Rattle.clipped.specs.Sizes.{most};
+ghost use Rattle.clipped.specs.Puts.{Puts};
 ghost use Rattle.state.specs.View.{bare, QUEUE};
 ghost use Rattle.rows.specs.Rows.{Ordered, Small};
 ghost use Rattle.waits.specs.Queues.{those, entry_text, lines_behind, Claimed};
 
+use clipped::Room;
 use state::Session;
+use text::Writer;
 
 // Names of 32 saves, three bytes each, where a field asks for eleven.
 const NAMES: usize = 112;
 
-// Save u's line with its claim's letter: granted, or waiting for the saves that the first n bytes of `names` name.
-fn entry(room: &mut [u8], at: usize, k: usize, u: u8, c: u8, names: &[u8], n: usize) -> usize
-    requires { (k < 65536) × (n ≤ 96) × (n ≤ length names.now) × (at + 124 ≤ most) }
-    ensures { Wrote room.old at (entry_text k u c (take n names.now)) 124 result room.new }
+// Save u's line with its claim's letter: granted, or waiting for the saves that are named. The hint is for `clipped`'s reason.
+#[inline(always)]
+fn entry(room: &mut Room, k: usize, u: u8, c: u8, names: &[u8])
+    requires { (k < 65536) × (length names.now ≤ 96) × (room.old.at + 124 ≤ most) }
+    ensures { Puts room.old room.new (entry_text k u c names.now) 124 }
 {
-    let e = clipped::line_start(room, at, b'Q', k as u32, u as u32);
-    let f = clipped::letter(room, e, c);
-    if n == 0 {
-        let g = clipped::letter(room, f, b'G');
-        return clipped::put(room, g, 10);
+    room.line_start(b'Q', k as u32, u as u32);
+    room.letter(c);
+    if names.is_empty() {
+        room.letter(b'G');
+    } else {
+        room.letter(b'W');
+        room.append(names);
     }
-    let g = clipped::letter(room, f, b'W');
-    let h = clipped::append(room, g, names, n);
-    clipped::put(room, h, 10)
+    room.put(b'\n');
 }
 
-// Sheet k's queue: those of the first n in line that have an entry. The names that the next entry waits for grow with each: all of them for an
-// X, the X among them for an S.
-fn queue(room: &mut [u8], at: usize, q: &[u64], line: &[u8], n: usize, k: usize) -> usize
-    requires { (k < 65536) × (QUEUE + 2 * k + 1 < length q.now) × (n ≤ 32) × (n ≤ length line.now) × Small line.now n × (at + 3968 ≤ most) }
-    ensures { Wrote room.old at
-        (lines_behind (bit (get_or q.now (QUEUE + 2 * k + 1) 0)) k [] (those (bit (get_or q.now (QUEUE + 2 * k) 0)) (take n line.now)))
-        3968 result room.new }
+// Sheet k's queue: those in line that have an entry. The names that the next entry waits for grow with each: all of them for an X, the X among
+// them for an S.
+fn queue(room: &mut Room, q: &[u64], line: &[u8], k: usize)
+    requires { (k < 65536) × (QUEUE + 2 * k + 1 < length q.now) × (length line.now ≤ 32) × Small line.now (length line.now)
+        × (room.old.at + 3968 ≤ most) }
+    ensures { Puts room.old room.new
+        (lines_behind (bit (get_or q.now (QUEUE + 2 * k + 1) 0)) k [] (those (bit (get_or q.now (QUEUE + 2 * k) 0)) line.now))
+        3968 }
 {
     let all = q[Session::QUEUE + 2 * k];
     let xs = q[Session::QUEUE + 2 * k + 1];
-    let mut names = [0u8; NAMES];
-    let mut x_names = [0u8; NAMES];
-    let mut l: usize = 0;
-    let mut lx: usize = 0;
-    let mut e = at;
-    let mut i: usize = 0;
-    while i < n {
-        let u = line[i];
+    let mut bytes = [0u8; NAMES];
+    let mut x_bytes = [0u8; NAMES];
+    let mut names = Writer {
+        buf: &mut bytes,
+        at: 0,
+    };
+    let mut x_names = Writer {
+        buf: &mut x_bytes,
+        at: 0,
+    };
+    for &u in line {
         if sets::has(all, u as usize) {
             if sets::has(xs, u as usize) {
-                e = entry(room, e, k, u, b'X', &names, l);
-                lx = text::field(&mut x_names, lx, u as u32);
+                entry(room, k, u, b'X', names.written());
+                x_names.field(u as u32);
             } else {
-                e = entry(room, e, k, u, b'S', &x_names, lx);
+                entry(room, k, u, b'S', x_names.written());
             }
-            l = text::field(&mut names, l, u as u32);
+            names.field(u as u32);
         }
-        i += 1;
     }
-    e
 }
 
 // All queues: their lines are those of every state that shows them and claims what they have.
-pub fn lines(room: &mut [u8], at: usize, b: &[u8], q: &[u64], m: usize) -> usize
-    requires { Ordered b.now q.now × (m < 65536) × (QUEUE + 2 * m ≤ length q.now) × (at + m * 3968 ≤ most) }
-    ensures { (s : _) → Claimed m s q.now
-        → Wrote room.old at (rules.queue_lines (bare m b.now s q.now)) (m * 3968) result room.new }
+pub fn lines(room: &mut Room, x: &Session)
+    requires { Ordered x.now.bytes.now x.now.queues.now × (x.now.m < 65536) × (QUEUE + 2 * x.now.m ≤ length x.now.queues.now)
+        × (room.old.at + x.now.m * 3968 ≤ most) }
+    ensures { (s : _) → Claimed x.now.m s x.now.queues.now
+        → Puts room.old room.new (rules.queue_lines (bare x.now.m x.now.bytes.now s x.now.queues.now)) (x.now.m * 3968) }
 {
     let mut line = [0u8; Session::SAVES];
-    let n = rows::line_of(&mut line, b, q);
-    let mut e = at;
-    let mut k: usize = 0;
-    while k < m {
-        e = queue(room, e, q, &line, n, k);
-        k += 1;
+    let n = rows::line_of(&mut line, x);
+    for k in 0..x.m {
+        queue(room, x.queues, &line[..n], k);
     }
-    e
 }

@@ -1,8 +1,8 @@
 -- What the rules find at a command byte, by the table of commands, in the terms of the code.
-use mathlib.Core.Path.{◌≡◌, refl, sym, ◌∙◌}
+use mathlib.Core.Path.{◌≡◌, refl, sym, ap, ◌∙◌}
 use mathlib.Core.List.{List, [], ◌∷◌}
 use mathlib.Core.Option.{Option, none, some}
-use Prim.Native.Nat.{ℕ, zero, suc, ◌+◌, ◌-◌, ◌≤◌, ◌<◌}
+use Prim.Native.Nat.{ℕ, zero, suc, ◌-◌, ◌≤◌, ◌<◌}
 use native.Mathlib.Nat.{zero-add}
 use native.Mathlib.Omega.{arith}
 use borrow.Author.Tests.{lt-ltb, le-ltb, eqb-true}
@@ -11,7 +11,9 @@ use lib.ListN.{length, get_or, take, drop, length-drop}
 use lib.Seq.{take_all, get_or-drop}
 use Rattle.rules.specs.Bytes.{Form, Front, unknown, cut, whole, Command, Begin, form_of, commands, widths, values, big_endian, front_by, front}
 use Rattle.rules.proofs.Table.{bool}
-use Rattle.wire.specs.Meaning.{front_in, width_of, operand_bytes, shown_in, contents}
+use Rattle.std.specs.Int.{from_be_bytes}
+use Rattle.std.proofs.Common.{w32}
+use Rattle.wire.specs.Meaning.{front_in}
 
 -- what `&s[a..]` lends
 pub rest : (s : List ℕ) (a : ℕ) → take (length s - a) (drop a s) ≡ drop a s
@@ -22,6 +24,17 @@ front_some [] n = absurd (n refl)
 front_some (b ∷ bs) n = refl
 
 -- ---- Operands
+
+-- 0 where there is no such form
+abbrev pub width_of : Option Form → ℕ
+width_of none = 0
+width_of (some f) = widths f.operands
+
+unfoldable pub operand_bytes : ℕ → ℕ
+operand_bytes b = width_of (form_of b commands)
+
+abbrev pub contents : (a b c d : ℕ) → ℕ
+contents a b c d = big_endian (a ∷ b ∷ c ∷ d ∷ [])
 
 pub first_byte : (l : List ℕ) → big_endian (take 1 l) ≡ get_or l 0 0
 first_byte [] = refl
@@ -36,6 +49,9 @@ four_bytes (a ∷ b ∷ c ∷ []) h = absurd (omega arith)
 four_bytes (a ∷ b ∷ []) h = absurd (omega arith)
 four_bytes (a ∷ []) h = absurd (omega arith)
 four_bytes [] h = absurd (omega arith)
+
+pub read_be : (a b c d : ℕ) → from_be_bytes w32 (a ∷ b ∷ c ∷ d ∷ []) ≡ contents a b c d
+read_be a b c d = omega arith
 
 pub last_bytes : (l : List ℕ) → 6 ≤ length l → big_endian (take 4 (drop 1 (drop 1 l))) ≡ contents (get_or l 2 0) (get_or l 3 0) (get_or l 4 0) (get_or l 5 0)
 last_bytes l h = four_bytes (drop 1 (drop 1 l)) (simp length-drop (omega arith)) ∙ simp get_or-drop
@@ -143,19 +159,19 @@ rest_end (b ∷ bs) e = absurd (omega arith)
 pub rest_whole : (s : List ℕ) (f : Option Front) → (length s ≡ 0 → ⊥) → f ≡ some (front (get_or s 0 0) (take (length s - 1) (drop 1 s))) → f ≡ front_in s
 rest_whole s f n e = e ∙ rw (front_some s n, rest s 1)
 
--- ---- What is shown
+-- what the slice pattern leaves behind the byte
+abbrev pub behind : List ℕ → List ℕ
+behind s = take (length s - 1) (drop 1 s)
 
-module _ (s : List ℕ) where
-  pub shown_none : length s ≡ 0 → 0 ≡ shown_in (front_in s) (length s)
-  shown_none e = rw (sym (rest_end s e))
+module _ (s : List ℕ) (n : 1 ≤ length s) where
+  there : length s ≡ 0 → ⊥
+  there e = omega arith
 
-  module _ (w : ℕ) (some : length s ≡ 0 → ⊥) (e : w ≡ operand_bytes (get_or s 0 0)) where
-    pub shown_unknown : w ≡ 0 → 1 ≡ shown_in (front_in s) (length s)
-    shown_unknown z = rw (front_some s some, front_unknown (get_or s 0 0) (drop 1 s) (sym e ∙ z))
+  pub rest_none : Not_to (get_or s 0 0) 8 → some unknown ≡ front_in s
+  rest_none h = rest_whole s (some unknown) there (front_none (get_or s 0 0) (behind s) h)
 
-    pub shown_cut : length s ≤ w → length s ≡ shown_in (front_in s) (length s)
-    shown_cut h = rw (front_some s some, front_cut (get_or s 0 0) (drop 1 s) (rw (length-drop 1 s, ← e) (let n = some in omega arith)))
+  pub rest_short : (k w : ℕ) → operand_bytes k ≡ w → get_or s 0 0 ≡ k → length (behind s) < w → some cut ≡ front_in s
+  rest_short k w z e h = rest_whole s (some cut) there (front_short (get_or s 0 0) (behind s) k w z e h)
 
-    pub shown_whole : 0 < w → w < length s → 1 + w ≡ shown_in (front_in s) (length s)
-    unfolding operand_bytes
-    shown_whole p h = rw (front_some s some, whole_by (form_of (get_or s 0 0) commands) (drop 1 s) (rw e at p) (rw (length-drop 1 s, ← e) (omega arith)), ← e) (omega arith)
+  pub rest_long : (k w : ℕ) → operand_bytes k ≡ w → get_or s 0 0 ≡ k → 0 < w → w ≤ length (behind s) → some (whole (command_by (form_of k commands) (behind s)) (width_of (form_of k commands))) ≡ front_in s
+  rest_long k w z e p h = rest_whole s _ there (ap some (sym (front_long (get_or s 0 0) (behind s) k w z e p h)))

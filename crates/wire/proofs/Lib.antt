@@ -1,4 +1,5 @@
 pub mod Front
-pub mod Header
+pub mod Headers
 pub mod Opening
 pub mod Rest
+pub mod Refusing

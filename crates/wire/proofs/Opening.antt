@@ -8,21 +8,22 @@ use lib.ListN.{length, take, drop}
 use Rattle.rules.specs.Sizes.{max_sheets}
 use Rattle.rules.specs.Bytes.{opens, byte}
 use Rattle.rules.proofs.Table.{bool}
-use Rattle.wire.specs.declared.Opened.TheVariants.{Header, Bad}
+use Rattle.std.specs.Prelude.{Some, None}
+use Rattle.wire.specs.declared.Header.{Header}
 use Rattle.wire.specs.Meaning.{opened}
-use Rattle.wire.proofs.Header.{opens_has, owners_length}
+use Rattle.wire.proofs.Headers.{opens_has, owners_length}
 
 pub record Opening (b : List ℕ) (nodes sheets : ℕ) : Type 0 where
   pub opened_well : opens b ≡ true
   pub nodes_are : nodes ≡ byte b 0
   pub sheets_are : sheets ≡ byte b 1
 
-pub opening : (b : List ℕ) (nodes sheets : ℕ) → Header nodes sheets ≡ opened b → Opening b nodes sheets
+pub opening : (b : List ℕ) (h : Header) → opened b ≡ Some h → Opening b h.nodes h.sheets
 unfolding opened
-opening b nodes sheets e =
+opening b h e =
     bool (opens b)
-    (λ o. let f : Header nodes sheets ≡ Header (byte b 0) (byte b 1) = rw o at e in record { opened_well = o; nodes_are = cc; sheets_are = cc })
-    (λ o. let f : Header nodes sheets ≡ Bad = rw o at e in absurd (let z : ◌≡◌ {A = ℕ} 0 1 = cc in omega arith))
+    (λ o. let f : Some (record { nodes = byte b 0; sheets = byte b 1 }) ≡ Some h = rw o at e in record { opened_well = o; nodes_are = cc; sheets_are = cc })
+    (λ o. let f : None ≡ Some h = rw o at e in cc)
 
 module _ {b : List ℕ} {nodes sheets : ℕ} (o : Opening b nodes sheets) where
   pub header_within : 2 + sheets ≤ length b
@@ -40,9 +41,6 @@ module _ {b : List ℕ} {nodes sheets : ℕ} (o : Opening b nodes sheets) where
 
 -- ---- Refusal 1
 
-pub unopened : (b : List ℕ) → Bad ≡ opened b → opens b ≡ false
+pub unopened : (b : List ℕ) → opened b ≡ None → opens b ≡ false
 unfolding opened
-unopened b e = bool (opens b) (λ o. absurd (clash (rw o at e))) (λ o. o)
-  where
-    clash : {n m : ℕ} → Bad ≡ Header n m → ⊥
-    clash f = let z : ◌≡◌ {A = ℕ} 0 1 = cc in omega arith
+unopened b e = bool (opens b) (λ o. let f : Some (record { nodes = byte b 0; sheets = byte b 1 }) ≡ None = rw o at e in cc) (λ o. o)

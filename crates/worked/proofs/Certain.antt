@@ -15,8 +15,10 @@ use Rattle.rules.specs.Steps.{x_on, Checked, pass, refuse, check, step_by, step}
 use Rattle.rules.proofs.Table.{all_at}
 use Rattle.rules.proofs.Accepted.{same_header}
 use Rattle.rules.proofs.Reached.{Reached, reached_fresh, reached_step}
+use Rattle.std.specs.Prelude.{Result}
+use Rattle.refusals.specs.declared.Refusal.{Refusal}
 use Rattle.state.specs.declared.Answer.{Answer}
-use Rattle.state.specs.View.{advanced}
+use Rattle.state.specs.View.{advanced_in}
 use Rattle.state.specs.Lent.{Steps}
 use Rattle.state.specs.Fit.{Known}
 use Rattle.state.proofs.Reaching as reaching
@@ -56,11 +58,11 @@ module _ (n : ℕ) (h : n < 17) where
   rises_after = reaching.rises (state_after n) (reached_after n) (rw (header_after n) (omega arith)) (rw (header_after n) (omega arith)) (λ k. rw (header_after n) (owner_small k)) (accepted_few n h)
 
 -- one step on
-pub onward : (before after : Tally → State) (a : Answer) (n : ℕ) (c : Command) → ((tally : Tally) → (after tally).tally ≡ tally)
+pub onward : (before after : Tally → State) (a : Result Answer Refusal) (n : ℕ) (c : Command) → ((tally : Tally) → (after tally).tally ≡ tally)
     → before (state_after n).tally ≡ state_after n → c ≡ command_at n → Steps before c after a → after (state_after (n + 1)).tally ≡ state_after (n + 1)
 unfolding state_after
 onward before after a n c own e f s =
     let t = (state_after n).tally in
-    let q : after (advanced t a) ≡ (step (state_after n) (command_at n)).state = state_stepped s e ∙ rw f in
-    let z : advanced t a ≡ (step (state_after n) (command_at n)).state.tally = sym (own (advanced t a)) ∙ ap (λ r. r.tally) q in
+    let q : after (advanced_in t a) ≡ (step (state_after n) (command_at n)).state = state_stepped s e ∙ rw f in
+    let z : advanced_in t a ≡ (step (state_after n) (command_at n)).state.tally = sym (own (advanced_in t a)) ∙ ap (λ r. r.tally) q in
     rw add-one (subst (λ x. after x ≡ (step (state_after n) (command_at n)).state) z q)

@@ -5,7 +5,8 @@ ghost use Rattle.std.specs.Prelude.{◌<◌, ◌≡◌};
 ghost use Rattle.wire.specs.Meaning.{command_of};
 ghost use Rattle.worked.specs.Worked.{command_at};
 
-use state::{Answer, Cause, Rule, Session, Verdict};
+use refusals::Refusal;
+use state::{Answer, Rule, Session, Verdict};
 use std::io;
 use wire::Command;
 
@@ -35,71 +36,60 @@ fn command(i: usize) -> Command
     }
 }
 
-fn say(rt: &impl Print, text: &[u8]) -> io::Result<()> {
-    rt.write_all(text)
-}
-
-fn number(rt: &impl Print, n: u64) -> io::Result<()> {
-    rt.print(n)
-}
-
-fn print_cause(rt: &impl Print, cause: Cause) -> io::Result<()> {
-    say(rt, b" invalid ")?;
-    number(rt, cause.sheet as u64)?;
-    let rule = cause.rule;
+fn word(rule: Rule) -> &'static str {
     match rule {
-        Rule::XGranted => say(rt, b" granted\n"),
-        Rule::XWaiting => say(rt, b" waiting\n"),
-        Rule::CounterBehind => say(rt, b" behind\n"),
+        Rule::XGranted => "granted",
+        Rule::XWaiting => "waiting",
+        Rule::CounterBehind => "behind",
     }
 }
 
-fn print_verdict(rt: &impl Print, v: Verdict) -> io::Result<()> {
+fn print_taken(rt: &impl Print, t: u8, v: Verdict) -> io::Result<()> {
     match v {
-        Verdict::Valid => say(rt, b" valid\n"),
-        Verdict::Invalid(cause) => print_cause(rt, cause),
+        Verdict::Valid => println!(rt; "{t} valid"),
+        Verdict::Invalid(cause) => {
+            let k = cause.sheet;
+            let rule = word(cause.rule);
+            println!(rt; "{t} invalid {k} {rule}")
+        }
     }
 }
 
-fn print(rt: &impl Print, a: Answer) -> io::Result<()> {
-    match a {
-        Answer::Accepted => say(rt, b"accepted\n"),
-        Answer::Content(v) => {
-            number(rt, v as u64)?;
-            say(rt, b"\n")
-        }
-        Answer::Took(t, v) => {
-            number(rt, t as u64)?;
-            print_verdict(rt, v)
-        }
-        Answer::Commits => say(rt, b"commits\n"),
-        Answer::CommitsLater => say(rt, b"commits\n"),
-        Answer::SecondRun => say(rt, b"second run\n"),
-        Answer::Recommits => say(rt, b"accepted\n"),
-        Answer::Refused(n) => {
-            say(rt, b"refused ")?;
-            number(rt, n as u64)?;
-            say(rt, b"\n")
+fn print(rt: &impl Print, answer: Result<Answer, Refusal>) -> io::Result<()> {
+    match answer {
+        Ok(Answer::Accepted | Answer::Recommits) => println!(rt; "accepted"),
+        Ok(Answer::Content(v)) => println!(rt; "{v}"),
+        Ok(Answer::Took(t, v)) => print_taken(rt, t, v),
+        Ok(Answer::Commits | Answer::CommitsLater) => println!(rt; "commits"),
+        Ok(Answer::SecondRun) => println!(rt; "second run"),
+        Err(why) => {
+            let n = u8::from(why);
+            println!(rt; "refused {n}")
         }
     }
 }
 
 // Sheet 0 stands at node 0, sheet 1 at node 1.
 fn run(rt: &impl Print) -> io::Result<()> {
-    let mut b = [0u8; Session::BYTES];
-    let mut s = [0u64; Session::SETS];
-    let mut q = [0u64; Session::QUEUES];
+    // The six arrays stand wherever a session is made: a function can't hand them back without copying 18 KB.
+    let mut bytes = [0u8; Session::BYTES];
+    let mut sets = [0u64; Session::SETS];
+    let mut queues = [0u64; Session::QUEUES];
     let mut value = [0u32; Session::COPIES];
     let mut seen = [0u16; Session::COPIES];
-    let mut w = [0u32; Session::STORE];
-    let owners: [u8; 2] = [0, 1];
-    Session::fresh(&mut b, &mut s, &q, &value, &seen, &w, 2, &owners);
-    let mut i: usize = 0;
-    while i < 17 {
-        let c = command(i);
-        let a = engine::step(&mut b, &mut s, &mut q, &mut value, &mut seen, &mut w, 2, c);
-        print(rt, a)?;
-        i += 1;
+    let mut sheets = [0u32; Session::STORE];
+    let mut x = Session::fresh(
+        &mut bytes,
+        &mut sets,
+        &mut queues,
+        &mut value,
+        &mut seen,
+        &mut sheets,
+        2,
+        &[0, 1],
+    );
+    for i in 0..17 {
+        print(rt, engine::step(&mut x, command(i)))?;
     }
     Ok(())
 }

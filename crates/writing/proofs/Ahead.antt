@@ -5,8 +5,10 @@ use mathlib.Core.List.{List, [], ◌∷◌, ◌++◌}
 use native.Mathlib.Nat.{add-zero, add-suc, suc-add}
 use native.Mathlib.Omega.{arith}
 use lib.ListN.{length, set, drop, length-append}
-use lib.Seq.{sets, set-set, set_comm, set_out, length-sets}
+use lib.Seq.{sets, set-set, set_comm, set_out}
+use Rattle.text.specs.declared.Writer.{Writer}
 use Rattle.text.specs.Wrote.{Wrote}
+use Rattle.text.specs.Writes.{Writes}
 use Rattle.text.proofs.Writing.{wrote_as, wrote_then, wrote_none, wrote_length}
 use Rattle.writing.specs.Ahead.{Ahead}
 
@@ -28,42 +30,49 @@ sets_out : (l s : List ℕ) (i : ℕ) → length l ≤ i → sets l i s ≡ l
 sets_out l [] i h = refl
 sets_out l (v ∷ s) i h = rw (set_out l i v h) (sets_out l s (suc i) (omega arith))
 
-exactly : (l x : List ℕ) (a : ℕ) → Wrote l a x (length x) (a + length x) (sets l a x)
-exactly l x a = record { ends = refl; bytes = refl; short = omega arith }
+exactly : (l x : List ℕ) (a e : ℕ) → e ≡ a + length x → Wrote l a x (length x) e (sets l a x)
+exactly l x a e q = record { ends = q; bytes = refl; short = omega arith }
 
-sets_then : (l x y : List ℕ) (a : ℕ) → sets (sets l a x) (a + length x) y ≡ sets l a (x ++ y)
-sets_then l x y a = (wrote_then (exactly l x a) (exactly (sets l a x) y (a + length x))).bytes
+sets_then : (l x y : List ℕ) (a e : ℕ) → e ≡ a + length x → sets (sets l a x) e y ≡ sets l a (x ++ y)
+sets_then l x y a e q = (wrote_then (exactly l x a e q) (exactly (sets l a x) y e (e + length y) refl)).bytes
 
 -- ---- Texts
 
-pub ahead_none : (l : List ℕ) (a : ℕ) → Ahead l a [] a l
-ahead_none l a = record { settled = l; wrote = wrote_none l a; spare = []; bytes = refl }
+pub ahead_none : (w : Writer) → Ahead w w []
+ahead_none w = record { same = refl; long = refl; settled = w.buf.now; wrote = wrote_none w.buf.now w.at; spare = []; bytes = refl }
 
-pub ahead_own : {l m x : List ℕ} {a e u : ℕ} → Wrote l a x u e m → Ahead l a x e m
-ahead_own {l} {m} p = record { settled = m; wrote = wrote_as refl (omega arith) p; spare = []; bytes = refl }
+pub ahead_own : {w v : Writer} {x : List ℕ} {u : ℕ} → Writes w v x u → Ahead w v x
+ahead_own {w} {v} p = record { same = p.same; long = p.long; settled = v.buf.now; wrote = wrote_as refl (omega arith) p.wrote; spare = []; bytes = refl }
 
-pub ahead_spread : {l m x : List ℕ} {a e u : ℕ} (y z : List ℕ) → x ≡ y ++ z → Wrote l a x u e m → Ahead l a y (a + length y) m
-ahead_spread {l} {m} {x} {a} y z q p =
-    record { settled = sets l a y; wrote = exactly l y a; spare = z; bytes = p.bytes ∙ rw q (sym (sets_then l y z a)) }
-
-pub ahead_then : {l m k x y : List ℕ} {a b c : ℕ} → Ahead l a x b m → Ahead m b y c k → Ahead l a (x ++ y) c k
-ahead_then {l} {m} {k} {x} {y} {a} {b} {c} p q =
-    let s = sets p.settled b y in
-    let one : Wrote p.settled b y (length y) c s = record { ends = q.wrote.ends; bytes = refl; short = omega arith } in
-    let left = drop (length y) p.spare in
-    let settled : q.settled ≡ sets s c left = q.wrote.bytes ∙ rw (p.bytes, q.wrote.ends) (sets_over p.settled p.spare y b) in
+-- the place goes back behind the first part of what was written
+pub ahead_spread : {w v : Writer} {x : List ℕ} {u : ℕ} (y z : List ℕ) (e : ℕ) → x ≡ y ++ z → e ≡ w.at + length y → Writes w v x u → Ahead w (record { buf = v.buf; at = e }) y
+ahead_spread {w} {v} {x} y z e q n p =
     record {
+      same = p.same;
+      long = p.long;
+      settled = sets w.buf.now w.at y;
+      wrote = exactly w.buf.now y w.at e n;
+      spare = z;
+      bytes = p.wrote.bytes ∙ rw q (sym (sets_then w.buf.now y z w.at e n));
+    }
+
+pub ahead_then : {w v u : Writer} {x y : List ℕ} → Ahead w v x → Ahead v u y → Ahead w u (x ++ y)
+ahead_then {w} {v} {u} {x} {y} p q =
+    let s = sets p.settled v.at y in
+    let one : Wrote p.settled v.at y (length y) u.at s = record { ends = q.wrote.ends; bytes = refl; short = omega arith } in
+    let left = drop (length y) p.spare in
+    let settled : q.settled ≡ sets s u.at left = q.wrote.bytes ∙ rw (p.bytes, q.wrote.ends) (sets_over p.settled p.spare y v.at) in
+    record {
+      same = q.same ∙ p.same;
+      long = q.long ∙ p.long;
       settled = s;
       wrote = wrote_as refl (omega (arith, length-append x y)) (wrote_then p.wrote one);
       spare = q.spare ++ drop (length q.spare) left;
-      bytes = q.bytes ∙ rw settled (sets_over s left q.spare c ∙ sets_then s q.spare (drop (length q.spare) left) c);
+      bytes = q.bytes ∙ rw settled (sets_over s left q.spare u.at ∙ sets_then s q.spare (drop (length q.spare) left) u.at (u.at + length q.spare) refl);
     }
 
-pub ahead_length : {l m x : List ℕ} {a e : ℕ} → Ahead l a x e m → length m ≡ length l
-ahead_length {l} {m} {x} {a} {e} p = ap length p.bytes ∙ length-sets p.settled e p.spare ∙ wrote_length p.wrote
-
 -- at the end of the buffer there is nothing ahead
-pub ahead_all : {l m x : List ℕ} {a e : ℕ} → Ahead l a x e m → length l ≤ e → Wrote l a x (length x) e m
-ahead_all {l} {m} {x} {a} {e} p h =
-    let z : m ≡ p.settled = p.bytes ∙ sets_out p.settled p.spare e (omega (arith, wrote_length p.wrote)) in
-    record { ends = p.wrote.ends; bytes = z ∙ p.wrote.bytes; short = p.wrote.short }
+pub ahead_all : {w v : Writer} {x : List ℕ} → Ahead w v x → length w.buf.now ≤ v.at → Writes w v x (length x)
+ahead_all {w} {v} {x} p h =
+    let z : v.buf.now ≡ p.settled = p.bytes ∙ sets_out p.settled p.spare v.at (omega (arith, wrote_length p.wrote)) in
+    record { same = p.same; long = p.long; wrote = record { ends = p.wrote.ends; bytes = z ∙ p.wrote.bytes; short = p.wrote.short } }

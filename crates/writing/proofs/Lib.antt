@@ -1,4 +1,3 @@
-pub mod Headings
 pub mod Steps
 pub mod Ahead
 pub mod Lists

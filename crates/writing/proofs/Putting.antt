@@ -1,17 +1,24 @@
 -- A step's bytes, as the writer stores them.
-use Prim.Native.Nat.{ℕ, suc, ◌+◌, ◌/◌, ◌%◌, ◌<◌}
+use Prim.Native.Nat.{ℕ, ◌+◌, ◌-◌, ◌%◌, ◌≤◌, ◌<◌}
 use mathlib.Core.Path.{◌≡◌, refl, sym, ap, ◌∙◌}
-use mathlib.Core.List.{List, [], ◌∷◌, ◌++◌, append-nil}
+use mathlib.Core.List.{List, [], ◌∷◌, ◌++◌, append-nil, append_assoc}
 use native.Mathlib.Nat.{div-one, mod-eq_of_lt}
 use native.Mathlib.Omega.{arith}
-use lib.ListN.{length, set}
+use borrow.Rule.Slice.PartMut.{put_mid}
+use lib.ListN.{length}
+use lib.Seq.{sets, sets-eq}
+use Rattle.std.specs.Int.{w32, to_be_bytes}
+use Rattle.std.proofs.lemmas.List.Edits.{paste_all}
+use Rattle.std.proofs.lemmas.Slice.{put_mid-paste}
 use Rattle.rules.specs.Bytes.{Operand, widths}
 use Rattle.rules.specs.Writing.{operand_bytes, in_bytes, step_bytes}
 use Rattle.forms.specs.Slots.{three, step, operands, Known}
 use Rattle.forms.proofs.Slots.{number_range, step_size}
 use Rattle.forms.proofs.Shapes.{Shape, short, middle, long, shape}
+use Rattle.text.specs.declared.Writer.{Writer}
 use Rattle.text.specs.Wrote.{Wrote}
-use Rattle.text.proofs.Writing.{wrote_as, wrote_then}
+use Rattle.text.specs.Writes.{Writes}
+use Rattle.text.proofs.Writing.{writes_as}
 use Rattle.writing.specs.Ahead.{Ahead, spread}
 use Rattle.writing.proofs.Ahead.{ahead_spread}
 
@@ -20,16 +27,18 @@ one_byte : (v : ℕ) → v % 256 ∷ [] ≡ in_bytes 1 v
 unfolding in_bytes
 one_byte v = rw div-one
 
-four_bytes : (v : ℕ) → v / 16777216 % 256 ∷ v / 65536 % 256 ∷ v / 256 % 256 ∷ v % 256 ∷ [] ≡ in_bytes 4 v
+pub four_in : (v : ℕ) → to_be_bytes w32 v ≡ in_bytes 4 v
 unfolding in_bytes
-four_bytes v = rw div-one
+four_in v = rw div-one
 
-pub four_wrote : (l : List ℕ) (a v : ℕ) → Wrote l a (in_bytes 4 v) 4 (a + 4) (set (set (set (set l a (v / 16777216 % 256)) (a + 1) (v / 65536 % 256)) (a + 2) (v / 256 % 256)) (a + 3) (v % 256))
-four_wrote l a v =
-    let one : a + 1 ≡ suc a = omega arith in
-    let two : a + 2 ≡ suc (suc a) = omega arith in
-    let three : a + 3 ≡ suc (suc (suc a)) = omega arith in
-    rw (← four_bytes v, one, two, three) (record { ends = refl; bytes = refl; short = omega arith })
+-- a part of a slice that was written over as a whole
+part_stored : (l x y : List ℕ) (a : ℕ) → y ≡ x → length x ≡ 4 → a + 4 ≤ length l → put_mid a (a + 4 - a) l y ≡ sets l a x
+part_stored l x y a e n h =
+    put_mid-paste a (a + 4 - a) l y x 4 e (omega arith) (sym n) ∙ paste_all l a x 4 (sym n) ∙ sym (sets-eq x l a (omega arith) ∙ rw (n, append_assoc))
+
+pub four_wrote : (l y : List ℕ) (a v : ℕ) → y ≡ to_be_bytes w32 v → a + 4 ≤ length l → Wrote l a (in_bytes 4 v) 4 (a + 4) (put_mid a (a + 4 - a) l y)
+four_wrote l y a v e h =
+    rw (← four_in v) (record { ends = refl; bytes = part_stored l (to_be_bytes w32 v) y a e refl h; short = omega arith })
 
 -- ---- A step by the shape of its operands
 
@@ -60,17 +69,16 @@ module _ (c x y z : ℕ) (k : Known c) where
   number : c % 256 ≡ c
   number = mod-eq_of_lt (omega (arith, number_range c k))
 
-  pub step_spread : {l m : List ℕ} {a e : ℕ} (r : ℕ) → r ≡ length (step_bytes (step c x y z)) → Wrote l a (spread c x y z) 7 e m → Ahead l a (step_bytes (step c x y z)) (a + r) m
+  pub step_spread : {w v : Writer} (r : ℕ) → r ≡ 1 + widths (operands c) → Writes w v (spread c x y z) 7 → Ahead w (record { buf = v.buf; at = w.at + r }) (step_bytes (step c x y z))
   unfolding operands
-  step_spread r q p =
+  step_spread {w} r q p =
       spread_by x y z (operands c) (shape c k) (λ spare e.
-      rw q (ahead_spread (step_bytes (step c x y z)) spare (rw (number, e)) p))
+      ahead_spread (step_bytes (step c x y z)) spare (w.at + r) (rw (number, e)) (rw (q, step_size c x y z)) p)
 
-  module _ {l l₁ l₂ : List ℕ} {a a₁ a₂ : ℕ} (p₀ : Wrote l a (c % 256 ∷ []) 1 a₁ l₁) (p₁ : Wrote l₁ a₁ (x % 256 ∷ []) 1 a₂ l₂) where
-    pub own_one : 1 + widths (operands c) ≡ 2 → Wrote l a (step_bytes (step c x y z)) 7 a₂ l₂
-    unfolding operands
-    own_one e = wrote_as (rw (number, one_by x y z (operands c) (shape c k) (omega arith))) (omega (arith, step_size c x y z)) (wrote_then p₀ p₁)
+  pub own_one : {w v : Writer} → 1 + widths (operands c) ≡ 2 → Writes w v (c % 256 ∷ x % 256 ∷ []) 2 → Writes w v (step_bytes (step c x y z)) 7
+  unfolding operands
+  own_one e p = writes_as (rw (number, one_by x y z (operands c) (shape c k) (omega arith))) (omega (arith, step_size c x y z)) p
 
-    pub own_two : {l₃ : List ℕ} {a₃ : ℕ} → (1 + widths (operands c) ≡ 2 → ⊥) → 1 + widths (operands c) < 7 → Wrote l₂ a₂ (y % 256 ∷ []) 1 a₃ l₃ → Wrote l a (step_bytes (step c x y z)) 7 a₃ l₃
-    unfolding operands
-    own_two n h p₂ = wrote_as (rw (number, two_by x y z (operands c) (shape c k) (λ e. n (omega arith)) (omega arith))) (omega (arith, step_size c x y z)) (wrote_then (wrote_then p₀ p₁) p₂)
+  pub own_two : {w v : Writer} → (1 + widths (operands c) ≡ 2 → ⊥) → 1 + widths (operands c) < 7 → Writes w v (c % 256 ∷ x % 256 ∷ y % 256 ∷ []) 3 → Writes w v (step_bytes (step c x y z)) 7
+  unfolding operands
+  own_two n h p = writes_as (rw (number, two_by x y z (operands c) (shape c k) (λ e. n (omega arith)) (omega arith))) (omega (arith, step_size c x y z)) p

@@ -2,14 +2,17 @@
 use Rattle.std.specs.Prelude.{ℕ, ◌%◌, ◌≡◌, List, ◌∷◌, length}
 use Rattle.std.proofs.lemmas.List.Edits.{sets}
 use Rattle.rules.specs.Writing.{in_bytes}
+use Rattle.text.specs.declared.Writer.{Writer}
 use Rattle.text.specs.Wrote.{Wrote}
 
--- `settled` has the text and no other change
-pub record Ahead (before : List ℕ) (at : ℕ) (text : List ℕ) (end : ℕ) (after : List ℕ) : Type 0 where
+-- The writer keeps its buffer and stands behind the text: `settled` has the text and no other change.
+pub record Ahead (w w' : Writer) (text : List ℕ) : Type 0 where
+  pub same : w'.buf.ghost_name ≡ w.buf.ghost_name
+  pub long : length w'.buf.now ≡ length w.buf.now
   pub settled : List ℕ
-  pub wrote : Wrote before at text (length text) end settled
+  pub wrote : Wrote w.buf.now w.at text (length text) w'.at settled
   pub spare : List ℕ
-  pub bytes : after ≡ sets settled end spare
+  pub bytes : w'.buf.now ≡ sets settled w'.at spare
 
 -- a step as if it had every operand
 abbrev pub spread : (c x y z : ℕ) → List ℕ

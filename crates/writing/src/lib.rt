@@ -1,220 +1,159 @@
 // Writing a session: a header and a list of steps, in words, as bytes. First everything is tested, then written.
 #![tactic(auto)]
 
-ghost use Rattle.std.specs.Prelude.{◌≡◌, List, [], ◌∷◌, ℕ, ◌+◌, ◌<◌, ◌≤◌, min, length, get_or, ltb};
-ghost use Rattle.rules.specs.Table.{all};
-ghost use Rattle.rules.specs.Bytes.{byte, widths};
+ghost use Rattle.std.specs.Prelude.{◌≡◌, List, [], ◌∷◌, ℕ, ◌+◌, ◌<◌, ◌≤◌, length, get_or, IfOk};
+ghost use Rattle.rules.specs.Sizes.{max_session};
+ghost use Rattle.rules.specs.Bytes.{widths};
+ghost use Rattle.rules.specs.Steps.{refuse};
 ghost use Rattle.rules.specs.Writing as rules;
+ghost use Rattle.refusals.specs.Numbers.{number_of};
+ghost use Rattle.wire.specs.Refusing.{outcome_of};
 ghost use Rattle.forms.specs.Slots.{step, operands, Known};
 ghost use Rattle.forms.specs.Columns.{Ranged, Bounds};
 ghost use Rattle.text.specs.Wrote.{Wrote};
-ghost use Rattle.writing.specs.Meaning.{heading_of, number_of, Sizes, step_in, steps_of, session_of, Passes, outcome_of, too_many, Small};
+ghost use Rattle.text.specs.Writes.{Writes};
+ghost use Rattle.writing.specs.Meaning.{heading_of, PassedAs, Tested, step_in, steps_of, session_of, Passes};
 ghost use Rattle.writing.specs.Ahead.{Ahead, spread};
 
-use forms::{LONGEST, Largest, SHORTEST, STEP_WORDS};
+use forms::{Kind, LONGEST, Largest, SHORTEST, STEP_WORDS};
 use limits::{MAX_NODES, MAX_SESSION, MAX_SHEETS};
+use refusals::{Refusal, Refused};
+use text::Writer;
 
-// How many bytes were written, or a refusal with its place.
+// How many steps there are and how many bytes they have.
 #[derive(Clone, Copy)]
-pub enum Written {
-    Bytes(usize),
-    Refused(usize, u8),
-}
-
-// How many steps there are and how many bytes they have, or the first refusal of a step with its place.
-#[derive(Clone, Copy)]
-enum Sized {
-    Steps(usize, usize),
-    Refused(usize, u8),
+struct Sizes {
+    steps: usize,
+    bytes: usize,
 }
 
 // ---- Tests
-
-// Whether each owner is below n.
-fn owners_below(owners: &[u8], n: usize) -> bool
-    ensures { result ≡ all (length owners.now) (λ k. ltb (byte owners.now k) n) }
-{
-    let mut k: usize = 0;
-    while k < owners.len() {
-        if n <= owners[k] as usize {
-            return false;
-        }
-        k += 1;
-    }
-    true
-}
 
 // Whether a header is in range and has an owner for each sheet.
 fn heading_fits(nodes: usize, sheets: usize, owners: &[u8]) -> bool
     ensures { result ≡ rules.heading_fits (heading_of nodes sheets owners.now) }
 {
-    if owners.len() != sheets {
-        return false;
-    }
-    if nodes < 1 {
-        return false;
-    }
-    if MAX_NODES < nodes {
-        return false;
-    }
-    if sheets < 1 {
-        return false;
-    }
-    if MAX_SHEETS < sheets {
-        return false;
-    }
-    owners_below(owners, nodes)
+    owners.len() == sheets
+        && (1..=MAX_NODES).contains(&nodes)
+        && (1..=MAX_SHEETS).contains(&sheets)
+        && wire::owners_below(owners, nodes as u8)
 }
 
-// The refusal that a step earns, 0 where it passes.
-fn step_refusal(l: Largest, c: u32, x: u32, y: u32, z: u32) -> u8
-    ensures { (n m : ℕ) → Bounds n m l → result ≡ number_of (rules.check_step n m (step c x y z)) }
+// A step's command, where the step passes.
+fn passed(l: Largest, c: u32, x: u32, y: u32, z: u32) -> Result<Kind, Refusal>
+    ensures { (n m : ℕ) → Bounds n m l → PassedAs c (rules.check_step n m (step c x y z)) result }
 {
-    if !forms::known(c) {
-        return 2;
+    let kind = Kind::new(c).ok_or(Refusal::UnknownCommand)?;
+    if !l.fits(kind, x, y) || kind.largest_third() < z {
+        return Err(Refusal::OutOfRange);
     }
-    if !forms::fits(l, c, x, y) {
-        return 4;
-    }
-    if forms::largest_third(c) < z {
-        return 4;
-    }
-    0
+    Ok(kind)
 }
 
 // The refusal of a step that is cut short.
-fn cut_refusal(c: u32) -> u8
-    ensures { (n m : ℕ) (vs : List ℕ) → length vs < 3 → result ≡ number_of (rules.check_step n m (record { number = c; operands = vs })) }
+fn cut_refusal(c: u32) -> Refusal
+    ensures { (n m : ℕ) (vs : List ℕ) → length vs < 3 → rules.check_step n m (record { number = c; operands = vs }) ≡ refuse (number_of result) }
 {
-    if forms::known(c) {
-        return 4;
+    match Kind::new(c) {
+        Some(_) => Refusal::OutOfRange,
+        None => Refusal::UnknownCommand,
     }
-    2
 }
 
-// A number of bytes as far as it matters: one more than a session may have stands for all above.
-fn capped(n: usize) -> usize
-    ensures { result ≡ min n too_many }
-{
-    if MAX_SESSION < n {
-        return MAX_SESSION + 1;
-    }
-    n
-}
-
-// Tests the steps one by one and counts their bytes.
-fn tested(nodes: u64, sheets: u64, steps: &[u32]) -> Sized
+// Tests the steps one by one and counts their bytes, up to one more than a session may have, which stands for all above.
+fn tested(nodes: u64, sheets: u64, steps: &[u32]) -> Result<Sizes, Refused>
     requires { Ranged nodes sheets }
-    ensures { Sizes nodes sheets (rules.instructions steps.now) result }
+    ensures { Tested nodes sheets (rules.instructions steps.now) result }
 {
-    let l = forms::bounds(nodes, sheets);
-    let mut i: usize = 0;
-    let mut q: usize = 0;
-    let mut t: usize = 0;
-    while STEP_WORDS <= steps.len() - i {
-        let c = steps[i];
-        let e = step_refusal(l, c, steps[i + 1], steps[i + 2], steps[i + 3]);
-        if 0 < e {
-            return Sized::Refused(q, e);
-        }
-        t += forms::size(c);
-        i += STEP_WORDS;
-        q += 1;
+    let l = Largest::new(nodes, sheets);
+    let count = steps.len() / STEP_WORDS;
+    let mut bytes: usize = 0;
+    for q in 0..count {
+        let i = STEP_WORDS * q;
+        let step = passed(l, steps[i], steps[i + 1], steps[i + 2], steps[i + 3]);
+        bytes += step.map_err(|why| why.at(q))?.size();
     }
+    let i = STEP_WORDS * count;
     if i < steps.len() {
-        return Sized::Refused(q, cut_refusal(steps[i]));
+        return Err(cut_refusal(steps[i]).at(count));
     }
-    Sized::Steps(q, capped(t))
+    Ok(Sizes {
+        steps: count,
+        bytes: bytes.min(MAX_SESSION + 1),
+    })
 }
 
 // ---- Bytes
 
-// One byte.
-fn put(buf: &mut [u8], at: usize, b: u8) -> usize
-    requires { at < length buf.old }
-    ensures { Wrote buf.old at (b ∷ []) 1 result buf.new }
-{
-    buf[at] = b;
-    at + 1
-}
-
 // A content, most significant byte first.
-fn put_content(buf: &mut [u8], at: usize, v: u32) -> usize
-    requires { at + 4 ≤ length buf.old }
-    ensures { Wrote buf.old at (rules.in_bytes 4 v) 4 result buf.new }
+fn put_content(out: &mut Writer, v: u32)
+    requires { out.old.at + 4 ≤ length out.old.buf.now }
+    ensures { Writes out.old out.new (rules.in_bytes 4 v) 4 }
 {
-    buf[at] = (v / 16777216 % 256) as u8;
-    buf[at + 1] = (v / 65536 % 256) as u8;
-    buf[at + 2] = (v / 256 % 256) as u8;
-    buf[at + 3] = (v % 256) as u8;
-    at + 4
+    let end = out.at + 4;
+    out.buf[out.at..end].copy_from_slice(&v.to_be_bytes());
+    out.at = end;
 }
 
 // A step in as many bytes as the longest has.
-fn put_longest(buf: &mut [u8], at: usize, c: u32, x: u32, y: u32, z: u32) -> usize
-    requires { at + 7 ≤ length buf.old }
-    ensures { Wrote buf.old at (spread c x y z) 7 result buf.new }
+fn put_longest(out: &mut Writer, c: u32, x: u32, y: u32, z: u32)
+    requires { out.old.at + 7 ≤ length out.old.buf.now }
+    ensures { Writes out.old out.new (spread c x y z) 7 }
 {
-    let e = put(buf, at, (c % 256) as u8);
-    let f = put(buf, e, (x % 256) as u8);
-    let g = put(buf, f, (y % 256) as u8);
-    put_content(buf, g, z)
+    out.put((c % 256) as u8);
+    out.put((x % 256) as u8);
+    out.put((y % 256) as u8);
+    put_content(out, z);
 }
 
 // A step without a content, in its own bytes.
-fn put_own(buf: &mut [u8], at: usize, c: u32, x: u32, y: u32) -> usize
-    requires { Known c × (1 + widths (operands c) < 7) × (at + (1 + widths (operands c)) ≤ length buf.old) }
-    ensures { (z : ℕ) → Wrote buf.old at (rules.step_bytes (step c x y z)) 7 result buf.new }
+fn put_own(out: &mut Writer, kind: Kind, x: u32, y: u32)
+    requires { (1 + widths (operands kind.number) < 7) × (out.old.at + (1 + widths (operands kind.number)) ≤ length out.old.buf.now) }
+    ensures { (z : ℕ) → Writes out.old out.new (rules.step_bytes (step kind.number x y z)) 7 }
 {
-    let e = put(buf, at, (c % 256) as u8);
-    let f = put(buf, e, (x % 256) as u8);
-    if forms::size(c) == SHORTEST {
-        return f;
+    out.put((kind.number % 256) as u8);
+    out.put((x % 256) as u8);
+    if kind.size() != SHORTEST {
+        out.put((y % 256) as u8);
     }
-    put(buf, f, (y % 256) as u8)
 }
 
 // A step in a buffer that ends with the session: the bytes behind it are written over by the next. Near the end there is no room for them.
-fn put_step(buf: &mut [u8], at: usize, steps: &[u32], i: usize) -> usize
-    requires { (i + 4 ≤ length steps.now) × Known (get_or steps.now i 0) × (at + length (rules.step_bytes (step_in steps.now i)) ≤ length buf.old) }
-    ensures { Ahead buf.old at (rules.step_bytes (step_in steps.now i)) result buf.new }
+fn put_step(out: &mut Writer, steps: &[u32], i: usize)
+    requires { (i + 4 ≤ length steps.now) × Known (get_or steps.now i 0) × (out.old.at + length (rules.step_bytes (step_in steps.now i)) ≤ length out.old.buf.now) }
+    ensures { Ahead out.old out.new (rules.step_bytes (step_in steps.now i)) }
 {
     let c = steps[i];
     let x = steps[i + 1];
     let y = steps[i + 2];
-    if LONGEST <= buf.len() - at {
-        put_longest(buf, at, c, x, y, steps[i + 3]);
-        return at + forms::size(c);
+    let kind = Kind { number: c };
+    if LONGEST <= out.buf.len() - out.at {
+        let end = out.at + kind.size();
+        put_longest(out, c, x, y, steps[i + 3]);
+        out.at = end;
+        return;
     }
-    put_own(buf, at, c, x, y)
+    put_own(out, kind, x, y);
 }
 
 // Owners, a byte each.
-fn put_owners(buf: &mut [u8], at: usize, owners: &[u8]) -> usize
-    requires { at + length owners.now ≤ length buf.old }
-    ensures { Wrote buf.old at owners.now (length owners.now) result buf.new }
+fn put_owners(out: &mut Writer, owners: &[u8])
+    requires { out.old.at + length owners.now ≤ length out.old.buf.now }
+    ensures { Writes out.old out.new owners.now (length owners.now) }
 {
-    let mut e = at;
-    let mut k: usize = 0;
-    while k < owners.len() {
-        e = put(buf, e, owners[k]);
-        k += 1;
+    for owner in owners {
+        out.put(*owner);
     }
-    e
 }
 
 // Steps that pass, to the end of the buffer.
-fn put_steps(buf: &mut [u8], at: usize, steps: &[u32]) -> usize
-    requires { Passes steps.now × (at + length (steps_of steps.now) ≡ length buf.old) }
-    ensures { Wrote buf.old at (steps_of steps.now) (length (steps_of steps.now)) result buf.new }
+fn put_steps(out: &mut Writer, steps: &[u32])
+    requires { Passes steps.now × (out.old.at + length (steps_of steps.now) ≡ length out.old.buf.now) }
+    ensures { Writes out.old out.new (steps_of steps.now) (length (steps_of steps.now)) }
 {
-    let mut e = at;
-    let mut i: usize = 0;
-    while STEP_WORDS <= steps.len() - i {
-        e = put_step(buf, e, steps, i);
-        i += STEP_WORDS;
+    for q in 0..steps.len() / STEP_WORDS {
+        put_step(out, steps, STEP_WORDS * q);
     }
-    e
 }
 
 // A session, in a buffer of its size.
@@ -229,41 +168,41 @@ fn put_session(
     ensures { Wrote session.old 0 (session_of nodes sheets owners.now steps.now)
         (length (session_of nodes sheets owners.now steps.now)) result session.new }
 {
-    let a = put(session, 0, (nodes % 256) as u8);
-    let b = put(session, a, (sheets % 256) as u8);
-    let d = put_owners(session, b, owners);
-    put_steps(session, d, steps)
+    let mut out = Writer {
+        buf: session,
+        at: 0,
+    };
+    out.put((nodes % 256) as u8);
+    out.put((sheets % 256) as u8);
+    put_owners(&mut out, owners);
+    put_steps(&mut out, steps);
+    out.at
 }
 
 // ---- The call
 
-// Writes a session to the front of the room, or refuses and writes nothing.
+// Writes a session to the front of the room: how many bytes it has; or refuses and writes nothing.
 pub fn write(
     nodes: usize,
     sheets: usize,
     owners: &[u8],
     steps: &[u32],
     session: &mut [u8],
-) -> Written
+) -> Result<usize, Refused>
     ensures session_after { record { outcome = outcome_of result; room = session.new }
         ≡ rules.write_call (heading_of nodes sheets owners.now) (rules.instructions steps.now) session.old }
-    ensures small { Small result }
+    ensures small { IfOk result (λ n. n ≤ max_session) }
 {
     if !heading_fits(nodes, sheets, owners) {
-        return Written::Refused(0, 1);
+        return Err(Refusal::BadHeader.at(0));
     }
-    let sizes = tested(nodes as u64, sheets as u64, steps);
-    match sizes {
-        Sized::Refused(p, n) => Written::Refused(p, n),
-        Sized::Steps(count, bytes) => {
-            let size = 2 + sheets + bytes;
-            if MAX_SESSION < size {
-                return Written::Refused(count, 1);
-            }
-            if session.len() < size {
-                return Written::Refused(size, 15);
-            }
-            Written::Bytes(put_session(&mut session[..size], nodes, sheets, owners, steps))
-        }
+    let sizes = tested(nodes as u64, sheets as u64, steps)?;
+    let size = 2 + sheets + sizes.bytes;
+    if MAX_SESSION < size {
+        return Err(Refusal::BadHeader.at(sizes.steps));
     }
+    if session.len() < size {
+        return Err(Refusal::NoRoom.at(size));
+    }
+    Ok(put_session(&mut session[..size], nodes, sheets, owners, steps))
 }

@@ -1,24 +1,15 @@
--- By the case.
+-- A size, or a refusal's place that is told whole.
+use mathlib.Core.Path.{◌∙◌}
 use native.Mathlib.Omega.{arith}
-use Rattle.codes.proofs.Laws.{whole_small, short_small, whole_told, short_told}
+use Prim.Native.Nat.{◌≤◌}
+use Rattle.rules.specs.Sizes.{max_state}
+use Rattle.rules.specs.Writing as lists
+use Rattle.codes.proofs.Decoding.{told_as}
+use Rattle.codes.proofs.Laws.{told_whole}
 use Rattle.codes.proofs.placed_code.Goals as goal
 
-pub code-requires : goal.code-requires
-code-requires c = let s = whole_small c.args.p c.requires c.in-Whole.is in (omega arith, omega arith)
+pub returns-in-Ok-clause-decoded : goal.returns-in-Ok-clause-decoded
+returns-in-Ok-clause-decoded c = rw c.in-Ok.is ((told_as (lists.wrote c.in-Ok.n) (let h : c.in-Ok.n ≤ max_state = rw c.in-Ok.is at c.requires in omega arith) c.code.ensures).1)
 
-pub code-requires-in-TooShort : goal.code-requires-in-TooShort
-code-requires-in-TooShort c = let s = short_small c.args.p c.requires c.in-TooShort.is in (omega arith, omega arith)
-
-pub returns-in-Whole : goal.returns-in-Whole
-returns-in-Whole c =
-    let all = (whole_told c.args.p c.requires c.in-Whole.is c.code.ensures) in record {
-      value = all.0;
-      decoded = all.1;
-    }
-
-pub returns-in-TooShort : goal.returns-in-TooShort
-returns-in-TooShort c =
-    let all = (short_told c.args.p c.requires c.in-TooShort.is c.code-in-TooShort.ensures) in record {
-      value = all.0;
-      decoded = all.1;
-    }
+pub returns-in-Err-clause-decoded : goal.returns-in-Err-clause-decoded
+returns-in-Err-clause-decoded c = rw c.in-Err.is (c.refusal_code.ensures.decoded ∙ told_whole c.in-Err.needs (rw c.in-Err.is at c.requires))

@@ -1,28 +1,20 @@
--- A number for each verdict.
+-- A number for each verdict, which gives it back.
+use Prim.Native.Nat.{◌<◌}
+use mathlib.Core.Path.{◌≡◌}
 use native.Mathlib.Omega.{arith}
+use borrow.Author.Rules.{rules}
+use Rattle.rules.specs.Calls.{answers}
+use Rattle.rules.specs.Steps.{took, valid, invalid}
+use Rattle.state.specs.View.{cause_of}
+use Rattle.codes.specs.Codes.{verdict_code}
 use Rattle.codes.proofs.Decoding.{decoded}
-use Rattle.codes.proofs.Laws.{near_sheet}
 use Rattle.codes.proofs.take_code.Goals as goal
 
-pub overflow_mul-k : goal.overflow_mul-k
-overflow_mul-k c = let z = near_sheet _ c.in-Invalid.is c.requires in omega arith
+pub returns-in-Valid-clause-decoded : goal.returns-in-Valid-clause-decoded
+returns-in-Valid-clause-decoded c = rw c.in-Valid.is ((decoded (answers (took c.args.t valid)) (omega arith) c.code.ensures).1)
 
-pub overflow_add-k : goal.overflow_add-k
-overflow_add-k c = let z = near_sheet _ c.in-Invalid.is c.requires in let f = c.ranges in omega arith
-
-pub code-requires-in-Invalid : goal.code-requires-in-Invalid
-code-requires-in-Invalid c = let z = near_sheet _ c.in-Invalid.is c.requires in let f = c.ranges in (omega arith, omega arith)
-
-pub returns-in-Valid : goal.returns-in-Valid
-returns-in-Valid c =
-    let all = decoded _ (omega arith) c.code.ensures in record {
-      value = rw c.in-Valid.is all.0;
-      decoded = rw c.in-Valid.is all.1;
-    }
-
-pub returns-in-Invalid : goal.returns-in-Invalid
-returns-in-Invalid c =
-    let all = decoded _ (let f = c.ranges in omega arith, near_sheet _ c.in-Invalid.is c.requires) (rw c.rule_number.ensures at c.code-in-Invalid.ensures) in record {
-      value = rw c.in-Invalid.is all.0;
-      decoded = rw c.in-Invalid.is all.1;
-    }
+pub returns-in-Invalid-clause-decoded : goal.returns-in-Invalid-clause-decoded
+returns-in-Invalid-clause-decoded c =
+    let near : c.in-Invalid.cause.sheet < 65536 = rw c.in-Invalid.is at c.requires in
+    let v : c.code-in-Invalid.result ≡ verdict_code c.args.t (invalid (cause_of c.in-Invalid.cause)) = search rules in
+    rw c.in-Invalid.is ((decoded (answers (took c.args.t (invalid (cause_of c.in-Invalid.cause)))) (let f = c.ranges in omega arith, near) v).1)

@@ -1,33 +1,31 @@
 -- A refusal for each test, or the copy written.
-use Rattle.state.specs.Lent.{writing}
-use Rattle.copies.proofs.Copying.{write_barred}
-use Rattle.copies.proofs.Writing.{keeps_same, member_fits, cell_fits, insert_fits, no_copy, wrote}
+use Rattle.state.specs.View.{tables}
+use Rattle.state.proofs.Steps.{refused_by}
+use Rattle.copies.proofs.Copying.{some_number, write_barred}
+use Rattle.copies.proofs.Writing.{copy_asked, cell_fits, insert_fits, no_copy, wrote}
+use Rattle.std.proofs.Common.{rules}
 use Rattle.copies.proofs.write.Goals as goal
 
-pub returns-then-r-ne0 : goal.returns-then-r-ne0
-returns-then-r-ne0 c = record {
-  moves = λ x. write_barred c.args.m (writing c.args.b.now c.args.s.now c.args.value.now x) c.args.t c.args.k c.barred-r.ensures c.args.v c.if-r-ne0.true;
-  kept = keeps_same c.args.m c.args.b.now c.args.s.now c.args.value.now;
-}
+pub returns-in_err-barred-clause-moves : goal.returns-in_err-barred-clause-moves
+returns-in_err-barred-clause-moves c = let x = c.args.x.now in
+    refused_by _ c.from_residual.ensures.1 (write_barred x.m (tables x) c.args.t c.args.k c.in_err-barred.ensures c.args.v (some_number _))
 
-pub member-c-requires : goal.member-c-requires
-member-c-requires c = member_fits c.args.m c.args.b.now c.args.s.now c.args.value.now c.args.t c.args.k c.requires c.barred-r.ensures c.if-r-ne0.false
+pub has_copy-requires : goal.has_copy-requires
+has_copy-requires c = let x = c.args.x.now in copy_asked x.m x.bytes.now x.sets.now x.value.now c.args.t c.args.k c.requires c.in_ok-barred.ensures
 
-pub returns-then-not-c : goal.returns-then-not-c
-returns-then-not-c c = record {
-  moves = no_copy c.args.m c.args.b.now c.args.s.now c.args.value.now c.args.t c.args.k c.requires c.barred-r.ensures c.if-r-ne0.false c.args.v c.member-c.ensures c.if-not-c.true;
-  kept = keeps_same c.args.m c.args.b.now c.args.s.now c.args.value.now;
-}
+pub returns-then-not-has_copy-clause-moves : goal.returns-then-not-has_copy-clause-moves
+returns-then-not-has_copy-clause-moves c = let x = c.args.x.now in no_copy x.m x.bytes.now x.sets.now x.value.now c.args.t c.args.k c.requires c.in_ok-barred.ensures c.args.v c.has_copy.ensures c.if-not-has_copy.true (tables x)
 
 pub set_cell-requires : goal.set_cell-requires
-set_cell-requires c = cell_fits c.args.m c.args.b.now c.args.s.now c.args.value.now c.args.t c.args.k c.requires c.barred-r.ensures c.if-r-ne0.false
+set_cell-requires c = let x = c.args.x.now in cell_fits x.m x.bytes.now x.sets.now x.value.now c.args.t c.args.k c.requires c.in_ok-barred.ensures
 
 pub insert-requires : goal.insert-requires
-insert-requires c = insert_fits c.args.m c.args.b.now c.args.s.now c.args.value.now c.args.t c.args.k c.requires c.barred-r.ensures c.if-r-ne0.false
+insert-requires c = let x = c.args.x.now in insert_fits x.m x.bytes.now x.sets.now x.value.now c.args.t c.args.k c.requires c.in_ok-barred.ensures
 
 pub returns : goal.returns
-returns c =
-    let all = (let y = c.if-not-c.false in wrote c.args.m c.args.b.now c.args.s.now c.args.value.now c.args.t c.args.k c.requires c.barred-r.ensures c.if-r-ne0.false c.args.v c.member-c.ensures y c.set_cell.ensures c.insert.ensures) in record {
-      moves = all.0;
-      kept = all.1;
+returns c = let x = c.args.x.now in
+    let all = wrote x.m x.bytes.now x.sets.now x.value.now c.args.t c.args.k c.requires c.in_ok-barred.ensures c.args.v c.has_copy.ensures c.if-not-has_copy.false c.set_cell.ensures c.insert.ensures in record {
+      moves = all.0 (tables x);
+      kept = all.1 (tables x);
+      only = search rules;
     }

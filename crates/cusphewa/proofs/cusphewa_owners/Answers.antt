@@ -5,22 +5,22 @@ use Rattle.rules.proofs.Writing.{owners_there, three_calls}
 use Rattle.cusphewa.proofs.Lists.{no_owners, owners_at}
 use Rattle.cusphewa.proofs.cusphewa_owners.Goals as goal
 
-pub returns-in-Bad : goal.returns-in-Bad
-returns-in-Bad c =
-    let t = no_owners _ (sym c.in-Bad.is ∙ c.read_header-header.ensures) in
+pub returns-in-None : goal.returns-in-None
+returns-in-None c =
+    let t = no_owners _ (sym c.read_header.ensures ∙ c.in-None.is) in
     record {
       value = t.0;
       decoded = t.1;
       there = owners_there _;
-      three_calls = three_calls _ (λ i. omega (arith, c.shared_slice_known-1.given i));
+      three_calls = three_calls _ (λ i. omega (arith, c.type_inv.session i));
     }
 
-pub returns-in-Header : goal.returns-in-Header
-returns-in-Header c =
-    let t = owners_at _ _ _ (sym c.in-Header.is ∙ c.read_header-header.ensures) in
+pub returns-in-Some : goal.returns-in-Some
+returns-in-Some c =
+    let t = owners_at _ c.in-Some.header (sym c.read_header.ensures ∙ c.in-Some.is) in
     record {
       value = t.0;
       decoded = t.1;
       there = owners_there _;
-      three_calls = three_calls _ (λ i. omega (arith, c.shared_slice_known-1.given i));
+      three_calls = three_calls _ (λ i. omega (arith, c.type_inv.session i));
     }

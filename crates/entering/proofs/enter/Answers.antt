@@ -1,33 +1,49 @@
+use mathlib.Core.Path.{refl, ◌∙◌}
 use native.Mathlib.Omega.{arith}
+use Rattle.state.proofs.Lending.{same_on}
 use Rattle.state.proofs.Rows.{in_blocks}
 use Rattle.entering.proofs.Rowing.{row_first, row_words, row_queues, row_inside, row_on, row_skip, row_end}
 use Rattle.entering.proofs.enter.Goals as goal
 use Rattle.entering.proofs.enter.Goals.{then-ours-ne0, else-ours-ne0}
 
 pub loop-j-init : goal.loop-j-init
-loop-j-init c = (omega arith, row_first c.args.m c.args.n c.args.t c.args.seen.now c.args.w.now c.args.s.now c.args.q.now)
-
-pub ours_in-ours-requires : goal.ours_in-ours-requires
-ours_in-ours-requires c = (row_words c.loop-j.invariant.1 (in_blocks c.args.m c.blocks-all.ensures c.loop-j-test.true) c.requires.6 c.requires.5 c.requires.0, c.requires.5, c.requires.6)
-
-pub hold-requires : goal.hold-requires
-hold-requires c = (row_words c.loop-j.invariant.1 (in_blocks c.args.m c.blocks-all.ensures c.loop-j-test.true) c.requires.6 c.requires.5 c.requires.0, c.requires.6)
+loop-j-init c = let x = c.args.x.now in record {
+  rowing = row_first x.m c.args.n c.args.t x.seen.now x.sheets.now x.sets.now x.queues.now;
+  only = record {
+    same = (refl, refl, refl, refl, refl, refl, refl);
+    bytes = refl;
+    sets = refl;
+    queues = refl;
+    value = refl;
+    seen = refl;
+    sheets = refl;
+  };
+}
 
 pub enter_block-fails-requires : goal.enter_block-fails-requires
-enter_block-fails-requires c = let g = c.loop-j.invariant.1 in let jb = in_blocks c.args.m c.blocks-all.ensures c.loop-j-test.true in let t32 = c.requires.6 in let n8 = c.requires.5 in
-    (rw c.hold.ensures.long (row_words g jb t32 n8 c.requires.0), row_queues g jb t32 n8 c.requires.1, c.requires.2, c.requires.3, c.requires.4, t32, jb, row_inside g jb t32 n8 c.ours_in-ours.result c.ours_in-ours.ensures c.requires.7)
-
-pub first_of-first-requires : goal.first_of-first-requires
-first_of-first-requires c = (c.requires.4, in_blocks c.args.m c.blocks-all.ensures c.loop-j-test.true)
+enter_block-fails-requires c =
+    let g = c.loop-j.invariant.rowing in let o = c.loop-j.invariant.only in let r = c.requires in
+    let jb = in_blocks c.args.x.now.m c.blocks-j-end.ensures c.loop-j-test.true in
+    rw (o.same.0, o.seen, o.sheets) (rw c.hold.ensures.long (row_words g jb r.6 r.5 r.0), row_queues g jb r.6 r.5 r.1, r.2, r.3, r.4, r.6, row_inside g jb r.6 r.5 c.ours_in-ours.result c.ours_in-ours.ensures r.7)
 
 pub loop-j-preserved : goal.loop-j-preserved
-loop-j-preserved c = let g = c.loop-j.invariant.1 in let jt = c.loop-j-test.true in let jb = in_blocks c.args.m c.blocks-all.ensures jt in let t32 = c.requires.6 in let n8 = c.requires.5 in (
-  omega (arith, jt),
-  elim c.if-ours-ne0.branch [
-    | then-ours-ne0 x ↦ rw (x.s-is, x.q-is, x.first-is) (row_on g jb t32 n8 c.ours_in-ours.result c.ours_in-ours.ensures c.requires.7 x.hold.ensures x.enter_block-fails.ensures.entered (omega (arith, x.enter_block-fails.type_inv)) x.enter_block-fails.ensures.late x.first_of-first.ensures)
-    | else-ours-ne0 x ↦ rw (x.s-is, x.q-is, x.first-is) (row_skip g jb t32 n8 c.ours_in-ours.result c.ours_in-ours.ensures c.requires.7 x.if-ours-ne0.false)
-  ],
-)
+loop-j-preserved c =
+    let g = c.loop-j.invariant.rowing in let o = c.loop-j.invariant.only in let r = c.requires in
+    let jb = in_blocks c.args.x.now.m c.blocks-j-end.ensures c.loop-j-test.true in
+    elim c.if-ours-ne0.branch [
+      | then-ours-ne0 w ↦ let e = w.enter_block-fails.ensures.only in rw (w.x-is, w.first-is) (record {
+        rowing = rw e.sets (row_on g jb r.6 r.5 c.ours_in-ours.result c.ours_in-ours.ensures r.7 w.hold.ensures (rw o.same.0 at w.enter_block-fails.ensures.entered)
+            (omega (arith, w.enter_block-fails.type_inv)) (rw (o.same.0, o.seen, o.sheets) at w.enter_block-fails.ensures.late) (w.or-first.ensures ∙ rw w.first_in.ensures));
+        only = record { same = same_on c.args.x.now c.loop-j.x w.enter_block-fails.new.x o.same e.same; bytes = e.bytes ∙ o.bytes; sets = refl; queues = refl; value = e.value ∙ o.value; seen = e.seen ∙ o.seen; sheets = e.sheets ∙ o.sheets };
+      })
+      | else-ours-ne0 w ↦ rw (w.x-is, w.first-is) (record {
+        rowing = row_skip g jb r.6 r.5 c.ours_in-ours.result c.ours_in-ours.ensures r.7 w.if-ours-ne0.false;
+        only = o;
+      })
+    ]
 
 pub returns : goal.returns
-returns c = row_end c.loop-j.invariant.1 c.blocks-all.ensures c.loop-j.invariant.0 c.loop-j-test.false
+returns c = record {
+  rowing = row_end c.loop-j.invariant.rowing c.blocks-j-end.ensures c.loop-j.auto.j-end c.loop-j-test.false;
+  only = c.loop-j.invariant.only;
+}

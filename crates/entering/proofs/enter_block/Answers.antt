@@ -1,49 +1,42 @@
 use native.Mathlib.Omega.{arith}
-use Rattle.sets.proofs.Loops.{some_left, at_digit}
+use mathlib.Core.Path.{refl, ◌∙◌}
+use Rattle.sets.proofs.Loops.{at_digit}
 use Rattle.entering.proofs.Entering.{going_first, going_step, going_end, at_sheet}
 use Rattle.entering.proofs.enter_block.Goals as goal
 
 pub loop-left-init : goal.loop-left-init
-loop-left-init c = going_first c.args.q.now c.ranges.ours.fits
+loop-left-init c = record {
+  going = going_first c.args.x.now.queues.now c.ranges.ours.fits;
+  only = record {
+    same = (refl, refl, refl, refl, refl, refl, refl);
+    bytes = refl;
+    sets = refl;
+    queues = refl;
+    value = refl;
+    seen = refl;
+    sheets = refl;
+  };
+}
 
-pub overflow_mul-k : goal.overflow_mul-k
-overflow_mul-k c = omega (arith, c.requires)
-
-pub overflow_add-k : goal.overflow_add-k
-overflow_add-k c = omega (arith, at_digit c.loop-left.invariant.over c.loop-left-test.true c.args.j c.requires.7 c.lowest-i.ensures, c.requires.4)
-
-pub has-requires : goal.has-requires
-has-requires c = (at_digit c.loop-left.invariant.over c.loop-left-test.true c.args.j c.requires.7 c.lowest-i.ensures).0
-
-pub enter_sheet-x-requires : goal.enter_sheet-x-requires
-enter_sheet-x-requires c = let a = at_digit c.loop-left.invariant.over c.loop-left-test.true c.args.j c.requires.7 c.lowest-i.ensures in
-    (at_sheet c.loop-left.invariant c.loop-left-test.true c.requires.7 c.lowest-i.ensures c.requires.1, omega (arith, a.1, c.requires.4), c.requires.5)
-
-pub has-requires-in-loop-left : goal.has-requires-in-loop-left
-has-requires-in-loop-left c = (at_digit c.loop-left.invariant.over c.loop-left-test.true c.args.j c.requires.7 c.lowest-i.ensures).0
+pub enter_sheet-held-requires : goal.enter_sheet-held-requires
+enter_sheet-held-requires c = let a = at_digit c.loop-left.invariant.going.over c.loop-left-test.true c.args.j c.requires.6 c.lowest-i.ensures in
+    (at_sheet c.loop-left.invariant.going c.loop-left-test.true c.requires.6 c.lowest-i.ensures c.requires.1, omega (arith, a.1, c.requires.4), c.requires.5)
 
 pub behind-late-requires : goal.behind-late-requires
-behind-late-requires c = (c.requires.2, c.requires.3, c.requires.4, c.requires.5, (at_digit c.loop-left.invariant.over c.loop-left-test.true c.args.j c.requires.7 c.lowest-i.ensures).1)
-
-pub with_if-fails-requires : goal.with_if-fails-requires
-with_if-fails-requires c = (at_digit c.loop-left.invariant.over c.loop-left-test.true c.args.j c.requires.7 c.lowest-i.ensures).0
-
-pub rest-left-requires : goal.rest-left-requires
-rest-left-requires c = some_left c.loop-left-test.true
-
-pub loop-left-smaller : goal.loop-left-smaller
-loop-left-smaller c = c.rest-left.ensures.less
+behind-late-requires c = let o = c.loop-left.invariant.only in
+    rw (o.same.0, o.seen, o.sheets) (c.requires.2, c.requires.3, c.requires.4, c.requires.5, (at_digit c.loop-left.invariant.going.over c.loop-left-test.true c.args.j c.requires.6 c.lowest-i.ensures).1)
 
 pub loop-left-preserved : goal.loop-left-preserved
-loop-left-preserved c = going_step c.loop-left.invariant c.loop-left-test.true c.requires.7 c.lowest-i.ensures c.rest-left.ensures c.has-in-loop-left.ensures c.behind-late.ensures
-    c.has.ensures (c.enter_sheet-x.ensures.entered c.args.m) c.enter_sheet-x.ensures.held c.with_if-fails.ensures
-
-pub shape_of-q : goal.shape_of-q
-shape_of-q c = c.loop-left.invariant.entered.long
+loop-left-preserved c = let l = c.loop-left.invariant in let o = l.only in record {
+  going = going_step l.going c.loop-left-test.true c.requires.6 c.lowest-i.ensures c.rest-left.ensures c.has-in-loop-left.ensures
+      (c.behind-late.ensures ∙ rw (o.same.0, o.seen, o.sheets)) c.has.ensures (c.enter_sheet-held.ensures.entered c.args.x.now.m) c.enter_sheet-held.ensures.held c.with_if-fails.ensures;
+  only = record { same = o.same; bytes = o.bytes; sets = o.sets; queues = refl; value = o.value; seen = o.seen; sheets = o.sheets };
+}
 
 pub returns : goal.returns
-returns c =
-    let all = (going_end c.loop-left.invariant c.loop-left-test.false c.word-xs.ensures c.word-copied.ensures) in record {
+returns c = let l = c.loop-left.invariant in
+    let all = going_end l.going c.loop-left-test.false c.word-xs.ensures c.word-copied.ensures in record {
       entered = all.0;
       late = all.1;
+      only = l.only;
     }

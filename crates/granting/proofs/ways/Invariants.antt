@@ -2,8 +2,5 @@
 use Rattle.granting.proofs.Looking.{Going}
 use Rattle.granting.proofs.ways.Given as goal
 
-abbrev pub invariant-loop-left : goal.invariant-loop-left
-invariant-loop-left l = Going l.s l.q l.t l.j l.all l.left
-
-abbrev pub decreases-loop-left : goal.decreases-loop-left
-decreases-loop-left l = l.left
+abbrev pub invariant-loop-i : goal.invariant-loop-i
+invariant-loop-i l = Going l.s l.q l.t l.j l.all l.i-iterator.left

@@ -18,12 +18,12 @@ one_more a b c front k n m xs ys within fits e before read =
     ∙ ap (λ l. take front xs ++ l) (take-append-le n ys after fits) in
     rw e (subst (Consumes a c) (sym behind) (Consumes-trans a b c _ _ before read))
 
-pub returns-in-Ok-eq0-clause-bytes : goal.returns-in-Ok-eq0-clause-bytes
-returns-in-Ok-eq0-clause-bytes g c =
-    let read = c.in-Ok-eq0.ensures in
-    one_more _ _ _ _ _ _ _ _ _ c.loop-done.invariant.1 read.bound.0 (omega (arith, c.in-Ok-eq0.field-0-test)) c.loop-done.invariant.2 read.bytes.0
+pub returns-in-0-clause-bytes : goal.returns-in-0-clause-bytes
+returns-in-0-clause-bytes g c =
+    let read = c.in_ok-n.ensures in
+    one_more _ _ _ _ _ _ _ _ _ c.loop-done.invariant.1 read.bound.0 (omega (arith, c.in-0.is)) c.loop-done.invariant.2 read.bytes.0
 
 pub loop-done-preserved : goal.loop-done-preserved
 loop-done-preserved g c =
-    let read = c.in-Ok.ensures in
+    let read = c.in_ok-n.ensures in
     (search rules, search rules, one_more _ _ _ _ _ _ _ _ _ c.loop-done.invariant.1 read.bound.0 refl c.loop-done.invariant.2 read.bytes.0)

@@ -1,15 +1,12 @@
 -- Block by block.
 use native.Mathlib.Omega.{arith}
 use Rattle.state.proofs.Rows.{in_reach}
-use Rattle.joining.proofs.Claims.{claimed_none, claimed_on, claimed_all}
+use Rattle.joining.proofs.Claims.{claimed_on, claimed_all}
 use Rattle.joining.proofs.claim.Goals as goal
-
-pub loop-j-init : goal.loop-j-init
-loop-j-init c = (omega arith, claimed_none c.args.t c.args.s.now)
 
 pub loop-j-preserved : goal.loop-j-preserved
 loop-j-preserved c = let l = c.loop-j in
-    (omega (arith, c.loop-j-test.true), rw (c.set_word-in-loop-j.ensures, c.set_word.ensures) (claimed_on c.args.t l.j c.requires.2 c.args.s.now l.s l.invariant.1 (rw l.invariant.1.long (in_reach c.args.m c.blocks-n.ensures c.loop-j-test.true c.args.s.now c.requires.0 _ (omega (arith, c.requires.2)))) c.either-c.result c.either-x.result c.word.ensures c.word-in-loop-j.ensures c.either-c.ensures c.word-in-loop-j-2.ensures c.word-in-loop-j-3.ensures c.either-x.ensures))
+    rw (c.set_word-in-loop-j.ensures, c.set_word.ensures) (claimed_on c.args.t l.j c.requires.2 c.args.s.now l.s l.invariant (rw l.invariant.long (in_reach c.args.m c.blocks-j-end.ensures c.loop-j-test.true c.args.s.now c.requires.0 _ (omega (arith, c.requires.2)))) c.either-c.result c.either-x.result c.word.ensures c.word-in-loop-j.ensures c.either-c.ensures c.word-in-loop-j-2.ensures c.word-in-loop-j-3.ensures c.either-x.ensures)
 
 pub returns : goal.returns
-returns c = claimed_all c.args.m c.blocks-n.ensures c.loop-j.invariant.0 c.loop-j-test.false c.loop-j.invariant.1
+returns c = claimed_all c.args.m c.blocks-j-end.ensures c.loop-j.auto.j-end c.loop-j-test.false c.loop-j.invariant

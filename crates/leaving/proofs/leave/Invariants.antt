@@ -1,10 +1,6 @@
 -- A turn for each block.
-use Prim.Native.Nat.{◌-◌, ◌≤◌}
 use Rattle.leaving.proofs.Leaving.{Blocks}
 use Rattle.leaving.proofs.leave.Given as goal
 
 abbrev pub invariant-loop-j : goal.invariant-loop-j
-invariant-loop-j l = (l.j ≤ l.n) × Blocks l.m l.t l.i l.initial.s l.initial.q l.s l.q l.j
-
-abbrev pub decreases-loop-j : goal.decreases-loop-j
-decreases-loop-j l = l.n - l.j
+invariant-loop-j l = Blocks l.m l.t l.i l.initial.s l.initial.q l.s l.q l.j

@@ -7,9 +7,6 @@ use Rattle.leaving.proofs.leave_block.Goals as goal
 pub loop-left-init : goal.loop-left-init
 loop-left-init c = going_first c.args.q.now c.ranges.ours.fits
 
-pub overflow_mul-k : goal.overflow_mul-k
-overflow_mul-k c = omega (arith, c.requires)
-
 pub overflow_add-k : goal.overflow_add-k
 overflow_add-k c = let a = at_digit c.loop-left.invariant.over c.loop-left-test.true c.args.j c.requires.4 c.lowest.ensures in omega arith
 
@@ -24,9 +21,6 @@ loop-left-smaller c = c.rest-left.ensures.less
 
 pub loop-left-preserved : goal.loop-left-preserved
 loop-left-preserved c = going_step c.loop-left.invariant c.loop-left-test.true c.lowest.ensures c.rest-left.ensures c.leave_sheet.ensures
-
-pub shape_of-q : goal.shape_of-q
-shape_of-q c = c.loop-left.invariant.gone.long
 
 pub returns : goal.returns
 returns c = going_end c.loop-left.invariant c.loop-left-test.false

@@ -1,16 +1,13 @@
 -- The steps before the offset stand in the first words.
 use native.Mathlib.Omega.{arith}
-use Rattle.listing.proofs.Storing.{storing_none, storing_next, storing_all, storing_length, storing_room, storing_known, storing_fits}
+use Rattle.listing.proofs.Storing.{storing_none, storing_next, storing_all, storing_room, storing_known, storing_fits}
 use Rattle.listing.proofs.put_steps.Goals as goal
 
 pub loop-at-init : goal.loop-at-init
 loop-at-init c = storing_none _ _ _ c.requires.0 c.requires.1
 
-pub overflow_cast-session : goal.overflow_cast-session
-overflow_cast-session c = omega (arith, c.shared_slice_known-in-loop-at-1.given c.loop-at.at)
-
-pub size-size-requires : goal.size-size-requires
-size-size-requires c = storing_known c.loop-at.invariant c.loop-at-test.true
+pub invariant_of-size : goal.invariant_of-size
+invariant_of-size c = record { known = storing_known c.loop-at.invariant c.loop-at-test.true }
 
 pub put_step-i-requires : goal.put_step-i-requires
 put_step-i-requires c =
@@ -23,14 +20,8 @@ overflow_add-at c =
     let n = storing_fits c.loop-at.invariant c.loop-at-test.true in
     omega (arith, c.size-size.ensures)
 
-pub loop-at-smaller : goal.loop-at-smaller
-loop-at-smaller c = omega (arith, c.size-size.ensures)
-
 pub loop-at-preserved : goal.loop-at-preserved
 loop-at-preserved c = storing_next c.loop-at.invariant c.loop-at-test.true _ c.size-size.ensures c.put_step-i.ensures
-
-pub shape_of-steps : goal.shape_of-steps
-shape_of-steps c = storing_length c.loop-at.invariant
 
 pub returns : goal.returns
 returns c = storing_all c.loop-at.invariant (omega arith)

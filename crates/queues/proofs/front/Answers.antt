@@ -2,23 +2,11 @@ use native.Mathlib.Omega.{arith}
 use Rattle.queues.proofs.Going.{first_small, going_first, next_small, going_less, going_on, going_end}
 use Rattle.queues.proofs.front.Goals as goal
 
-pub overflow_add-u : goal.overflow_add-u
-overflow_add-u c = let z = first_small c.requires.2 c.lowest-u.ensures c.ranges.x.fits c.requires.1 c.requires.0 in omega (arith, z.0)
-
-pub offset_bounds-q-u : goal.offset_bounds-q-u
-offset_bounds-q-u c = let z = first_small c.requires.2 c.lowest-u.ensures c.ranges.x.fits c.requires.1 c.requires.0 in omega (arith, z.0)
-
 pub bounds-q-u : goal.bounds-q-u
 bounds-q-u c = let z = first_small c.requires.2 c.lowest-u.ensures c.ranges.x.fits c.requires.1 c.requires.0 in omega (arith, z.1)
 
 pub loop-left-init : goal.loop-left-init
 loop-left-init c = going_first c.requires.2 c.lowest-u.ensures c.ranges.x.fits c.requires.1 c.both-left.type_inv c.both-left.ensures
-
-pub overflow_add-u-in-loop-left : goal.overflow_add-u-in-loop-left
-overflow_add-u-in-loop-left c = let z = next_small c.requires.2 c.loop-left.invariant c.loop-left-test.true c.lowest-u-in-loop-left.ensures c.requires.0 in omega (arith, z.0)
-
-pub offset_bounds-q-u-in-loop-left : goal.offset_bounds-q-u-in-loop-left
-offset_bounds-q-u-in-loop-left c = let z = next_small c.requires.2 c.loop-left.invariant c.loop-left-test.true c.lowest-u-in-loop-left.ensures c.requires.0 in omega (arith, z.0)
 
 pub bounds-q-u-in-loop-left : goal.bounds-q-u-in-loop-left
 bounds-q-u-in-loop-left c = let z = next_small c.requires.2 c.loop-left.invariant c.loop-left-test.true c.lowest-u-in-loop-left.ensures c.requires.0 in omega (arith, z.1)

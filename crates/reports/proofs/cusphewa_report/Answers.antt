@@ -1,5 +1,5 @@
 -- Refusal 12, refusal 1, or the report of the run; demand 3 and what is said of neighbours, changed contents and marks are the rules' theorems.
-use mathlib.Core.Path.{sym, ◌∙◌}
+use mathlib.Core.Path.{◌≡◌, sym, ◌∙◌}
 use native.Mathlib.Omega.{arith}
 use Rattle.rules.specs.Writing.{Bytes}
 use Rattle.rules.proofs.Demand3.{session_demand3}
@@ -7,12 +7,15 @@ use Rattle.rules.proofs.Neighbours.{session_neighbours}
 use Rattle.rules.proofs.Changes.{session_changes}
 use Rattle.rules.proofs.Eight.{never_eight}
 use Rattle.rules.proofs.Counter.{always_adds_marks}
-use Rattle.text.proofs.Writing.{wrote_end}
+use Rattle.text.proofs.Writing.{wrote_end, wrote_back}
+use borrow.Author.Rules.{rules}
 use Rattle.reports.proofs.Laws.{short_buffer, filled, not_empty, report_bad}
 use Rattle.reports.proofs.cusphewa_report.Goals as goal
 
 pub returns-then-report-lt-MIN_BUFFER : goal.returns-then-report-lt-MIN_BUFFER
-returns-then-report-lt-MIN_BUFFER c = let b = c.args.session.now in let h : Bytes b = λ i. omega (arith, c.shared_slice_known-1.given i) in
+returns-then-report-lt-MIN_BUFFER c =
+    let b = c.args.session.now in
+    let h : Bytes b = λ i. omega (arith, c.type_inv.session i) in
     record {
       report_after = short_buffer _ _ c.if-report-lt-MIN_BUFFER.true;
       demand3 = session_demand3 b;
@@ -24,14 +27,16 @@ returns-then-report-lt-MIN_BUFFER c = let b = c.args.session.now in let h : Byte
       only_12 = λ _. c.if-report-lt-MIN_BUFFER.true;
     }
 
-pub run-e-requires : goal.run-e-requires
-run-e-requires c = sym c.in-Header.is ∙ c.read_header-header.ensures
+pub run-requires : goal.run-requires
+run-requires c = sym c.read_header.ensures ∙ c.in-Some.is
 
-pub returns-in-Bad : goal.returns-in-Bad
-returns-in-Bad c =
-    let w = c.refusal_line.ensures in
-    let b = c.args.session.now in let h : Bytes b = λ i. omega (arith, c.shared_slice_known-1.given i) in
-    let e = filled _ _ c.if-report-lt-MIN_BUFFER.false (omega arith) (report_bad _ (sym c.in-Bad.is ∙ c.read_header-header.ensures)) w in
+pub returns-in-None : goal.returns-in-None
+returns-in-None c =
+    let b = c.args.session.now in
+    let h : Bytes b = λ i. omega (arith, c.type_inv.session i) in
+    let n : c.from.result ≡ 1 = search rules in
+    let w = wrote_back (rw n at c.refusal_line.ensures.wrote) (search rules) in
+    let e = filled _ _ c.if-report-lt-MIN_BUFFER.false (omega arith) (report_bad _ (sym c.read_header.ensures ∙ c.in-None.is)) w in
     record {
       report_after = e;
       demand3 = session_demand3 b;
@@ -43,15 +48,17 @@ returns-in-Bad c =
       only_12 = not_empty b _ e;
     }
 
-pub returns-in-Header : goal.returns-in-Header
-returns-in-Header c = let b = c.args.session.now in let h : Bytes b = λ i. omega (arith, c.shared_slice_known-1.given i) in
+pub returns-in-Some : goal.returns-in-Some
+returns-in-Some c =
+    let b = c.args.session.now in
+    let h : Bytes b = λ i. omega (arith, c.type_inv.session i) in
     record {
-      report_after = c.run-e.ensures.report;
+      report_after = c.run.ensures.report;
       demand3 = session_demand3 b;
       neighbours = session_neighbours b h;
       changes = session_changes b;
       eight = never_eight b;
       marks = always_adds_marks;
-      fits = c.run-e.ensures.fits;
-      only_12 = not_empty b _ c.run-e.ensures.report;
+      fits = c.run.ensures.fits;
+      only_12 = not_empty b _ c.run.ensures.report;
     }

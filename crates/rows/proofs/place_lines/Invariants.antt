@@ -1,11 +1,9 @@
--- The lines of the first i rows are written.
-use Rattle.std.proofs.Common.{◌-◌, ◌*◌, ◌≤◌, take}
-use Rattle.text.specs.Wrote.{Wrote}
+-- The lines of the first rows are written.
+use Prim.Native.Nat.{◌*◌}
+use lib.ListN.{take}
+use Rattle.text.specs.Writes.{Writes}
 use Rattle.rows.specs.Rows.{lines_of}
 use Rattle.rows.proofs.place_lines.Given as goal
 
-abbrev pub invariant-loop-i : goal.invariant-loop-i
-invariant-loop-i l = (l.i ≤ l.count) × Wrote l.initial.buf l.at (lines_of (take l.i l.rows)) (26 * l.i) l.e l.buf
-
-abbrev pub decreases-loop-i : goal.decreases-loop-i
-decreases-loop-i l = l.count - l.i
+abbrev pub invariant-loop-r : goal.invariant-loop-r
+invariant-loop-r l = Writes l.initial.w l.w (lines_of (take l.r-index l.rows)) (26 * l.r-index)

@@ -1,18 +1,19 @@
 -- The P, O and T lines one behind the other.
+use mathlib.Core.Path.{◌≡◌}
 use native.Mathlib.Omega.{arith}
-use Rattle.text.specs.Lines.{tally_of}
-use Rattle.text.proofs.Writing.{wrote_then, wrote_next}
+use lib.ListN.{length, take}
+use Rattle.std.proofs.lemmas.List.{length-take}
+use Rattle.tally.specs.Figures.{figures}
+use Rattle.text.proofs.Writing.{writes_then, writes_next}
 use Rattle.rows.proofs.Shown.{written}
 use Rattle.rows.proofs.state_lines.Goals as goal
 
-pub rows_of-rows-requires : goal.rows_of-rows-requires
-rows_of-rows-requires c =
-    let l = c.line_of-count.ensures in
-    (omega (arith, c.requires.0.bytes), l.few, omega (arith, l.few, l.long), l.small)
-
 pub returns : goal.returns
 returns c =
-    let a = c.args in
-    let places = rw c.rows_of-rows.ensures at c.write_rows-e.ensures in
-    wrote_next (written a.m a.b.now a.q.now a.w.now (tally_of a.accepted a.first a.second) c.requires.0 c.line_of-count.ensures) (omega (arith, c.line_of-count.ensures.few))
-    (wrote_then places c.sheet_lines-f.ensures) c.tally_line.ensures
+    let x = c.args.x.now in
+    let n = c.line_of-n.result in
+    let l = c.line_of-n.ensures in
+    let k : length (take n c.line_of-n.new.line) ≡ n = omega (arith, length-take n c.line_of-n.new.line, l.few, l.long) in
+    let few = length-take n c.rows_of-rows.result in
+    let places = rw (rw k at c.rows_of-rows.ensures) at c.place_lines.ensures in
+    writes_next (written x.m x.bytes.now x.queues.now x.sheets.now (figures c.args.t) c.requires.0 l) (writes_then places c.sheet_lines.ensures) c.tally_line.ensures (omega arith)

@@ -4,8 +4,8 @@ use Rattle.state.proofs.Parts.{part_in}
 use borrow.Author.Tests.{eq-eqb, ne_eqb}
 use Rattle.showing.proofs.failed_letter.Goals as goal
 
-pub returns-then-f-eq0 : goal.returns-then-f-eq0
-returns-then-f-eq0 c = rw (part_in FAILED 32 c.args.b.now c.args.t c.requires.1, eq-eqb _ _ c.if-f-eq0.true)
+pub returns-then-b-t-eq0 : goal.returns-then-b-t-eq0
+returns-then-b-t-eq0 c = rw (part_in FAILED 32 c.args.b.now c.args.t c.requires.1, eq-eqb _ _ c.if-b-t-eq0.true)
 
-pub returns : goal.returns
-returns c = rw (part_in FAILED 32 c.args.b.now c.args.t c.requires.1, ne_eqb _ _ c.if-f-eq0.false)
+pub returns-else-b-t-eq0 : goal.returns-else-b-t-eq0
+returns-else-b-t-eq0 c = rw (part_in FAILED 32 c.args.b.now c.args.t c.requires.1, ne_eqb _ _ c.if-b-t-eq0.false)

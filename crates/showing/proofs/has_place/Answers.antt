@@ -1,16 +1,11 @@
--- Behind the order's end, or by the save that stands there.
+-- By the save that stands there, or behind the order's end.
 use mathlib.Core.Path.{refl}
-use Rattle.showing.proofs.Laws.{save_small, no_place, some_place}
-use borrow.Author.Rules.{rules}
+use borrow.Author.Tests.{le-ltb}
+use Rattle.showing.proofs.Laws.{no_place, some_place}
 use Rattle.showing.proofs.has_place.Goals as goal
 
-pub returns-then-n-p : goal.returns-then-n-p
-returns-then-n-p c = no_place c.requires.0 c.args.t c.requires.1 refl c.if-n-p.true
+pub returns-then-p-x : goal.returns-then-p-x
+returns-then-p-x c = some_place c.requires.0 c.args.t c.requires.1 refl c.if-p-x.true
 
-pub overflow_cast-result : goal.overflow_cast-result
-overflow_cast-result c =
-    let z = save_small c.requires.0 _ c.if-n-p.false in
-    search rules
-
-pub returns : goal.returns
-returns c = some_place c.requires.0 c.args.t c.requires.1 refl c.if-n-p.false
+pub returns-else-p-x : goal.returns-else-p-x
+returns-else-p-x c = rw (le-ltb _ _ c.if-p-x.false) (no_place c.requires.0 c.args.t c.requires.1 refl c.if-p-x.false)

@@ -4,4 +4,6 @@ use Rattle.clipped.proofs.Laws.{copied}
 use Rattle.showing.proofs.report_lines.Goals as goal
 
 pub returns : goal.returns
-returns c = copied c.state_lines-e.ensures (omega arith) c.append.ensures
+returns c =
+    let p = c.append.ensures in
+    record { same = p.same; long = p.long; wrote = copied c.state_lines.ensures.wrote (omega arith) p.wrote c.written.ensures }

@@ -1,7 +1,8 @@
 -- The parts one after the other.
 use native.Mathlib.Omega.{arith}
+use borrow.Author.Rules.{rules}
 use Rattle.tally.specs.Figures.{figures}
-use Rattle.text.proofs.Writing.{wrote_then, wrote_end}
+use Rattle.text.proofs.Writing.{writes_then, wrote_back}
 use Rattle.clipped.proofs.Laws.{wrote_within}
 use Rattle.state.proofs.Known.{entry_claim}
 use Rattle.rows.proofs.Lines.{ordered}
@@ -9,36 +10,36 @@ use Rattle.holdings.proofs.Laws.{readable}
 use Rattle.showing.proofs.Laws.{marked, numbered, all_lines}
 use Rattle.showing.proofs.text.Goals as goal
 
-pub report_lines-e-requires : goal.report_lines-e-requires
-report_lines-e-requires c = let p = c.requires in (ordered p.ready, p.stored, p.few)
+pub report_lines-requires : goal.report_lines-requires
+report_lines-requires c = let p = c.requires in (ordered p.ready, p.stored, p.few, omega arith)
 
-pub save_lines-f-requires : goal.save_lines-f-requires
-save_lines-f-requires c =
+pub save_lines-requires : goal.save_lines-requires
+save_lines-requires c =
     let p = c.requires in
-    (marked p.ready, numbered p.ready, omega (arith, p.few, wrote_end c.report_lines-e.ensures))
+    (marked p.ready, numbered p.ready, omega arith)
 
-pub order_lines-g-requires : goal.order_lines-g-requires
-order_lines-g-requires c =
+pub order_lines-requires : goal.order_lines-requires
+order_lines-requires c =
     let p = c.requires in
-    (numbered p.ready, omega (arith, p.few, wrote_end c.save_lines-f.ensures, wrote_end c.report_lines-e.ensures))
+    (numbered p.ready, omega arith)
 
-pub node_lines-h-requires : goal.node_lines-h-requires
-node_lines-h-requires c =
+pub node_lines-requires : goal.node_lines-requires
+node_lines-requires c =
     let p = c.requires in
-    (numbered p.ready, omega (arith, p.few, wrote_end c.order_lines-g.ensures, wrote_end c.save_lines-f.ensures, wrote_end c.report_lines-e.ensures))
-
-pub lines-i-requires : goal.lines-i-requires
-lines-i-requires c =
-    let p = c.requires in
-    (readable p.ready p.values p.seens p.stored, omega (arith, p.few, wrote_end c.node_lines-h.ensures, wrote_end c.order_lines-g.ensures, wrote_end c.save_lines-f.ensures, wrote_end c.report_lines-e.ensures))
+    (numbered p.ready, omega arith)
 
 pub lines-requires : goal.lines-requires
 lines-requires c =
     let p = c.requires in
-    (ordered p.ready, omega (arith, p.few), p.ready.kept.sized.queues, omega (arith, p.few, wrote_end c.lines-i.ensures, wrote_end c.node_lines-h.ensures, wrote_end c.order_lines-g.ensures, wrote_end c.save_lines-f.ensures, wrote_end c.report_lines-e.ensures))
+    (readable p.ready p.values p.seens p.stored, omega arith)
+
+pub lines-requires-2 : goal.lines-requires-2
+lines-requires-2 c =
+    let p = c.requires in
+    (ordered p.ready, omega arith, p.ready.kept.sized.queues, omega arith)
 
 pub returns : goal.returns
 returns c =
-    let a = c.args in
-    wrote_within (all_lines a.m a.b.now a.s.now a.q.now a.value.now a.seen.now a.w.now (figures a.tally)) (omega arith)
-    (wrote_then (wrote_then (wrote_then (wrote_then (wrote_then c.report_lines-e.ensures c.save_lines-f.ensures) c.order_lines-g.ensures) c.node_lines-h.ensures) c.lines-i.ensures) (c.lines.ensures a.s.now (entry_claim c.requires.ready)))
+    let x = c.args.x.now in
+    let w = writes_then (writes_then (writes_then (writes_then (writes_then c.report_lines.ensures c.save_lines.ensures) c.order_lines.ensures) c.node_lines.ensures) c.lines.ensures) (c.lines-2.ensures x.sets.now (entry_claim c.requires.ready)) in
+    wrote_back (wrote_within (all_lines x (figures c.args.tally)) (omega arith) w.wrote) (search rules)

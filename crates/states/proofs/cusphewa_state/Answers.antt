@@ -6,15 +6,12 @@ use Rattle.states.proofs.Laws.{no_state, no_text}
 use Rattle.states.proofs.cusphewa_state.Goals as goal
 
 pub show-requires : goal.show-requires
-show-requires c = sym c.in-Header.is ∙ c.read_header-header.ensures
+show-requires c = sym c.read_header.ensures ∙ c.in-Some.is
 
-pub placed_code-requires : goal.placed_code-requires
-placed_code-requires c = c.show.ensures.small
-
-pub returns-in-Bad : goal.returns-in-Bad
-returns-in-Bad c =
-    let e = sym c.in-Bad.is ∙ c.read_header-header.ensures in
-    let t = no_state _ e c.code.ensures in
+pub returns-in-None : goal.returns-in-None
+returns-in-None c =
+    let e = sym c.read_header.ensures ∙ c.in-None.is in
+    let t = no_state _ e (rw c.at.ensures at c.refusal_code.ensures.value) in
     record {
       room_after = t.0;
       decoded = t.1;
@@ -22,8 +19,8 @@ returns-in-Bad c =
       granted = granted_alone;
     }
 
-pub returns-in-Header : goal.returns-in-Header
-returns-in-Header c =
+pub returns-in-Some : goal.returns-in-Some
+returns-in-Some c =
     let w = c.show.ensures in
     let t = placed_told c.show.result w.room_after (c.placed_code.ensures.value, c.placed_code.ensures.decoded) in
     record {

@@ -1,25 +1,11 @@
 -- Any text fits the most room; else the length first, then the text.
-use Rattle.codes.proofs.Laws.{too_short}
-use Rattle.states.proofs.Laws.{fits, fits_all, room_enough, text_short}
+use Rattle.states.proofs.Laws.{fits, fits_all}
 use Rattle.states.proofs.fill.Goals as goal
+use Rattle.states.proofs.fill.Goals.{then-room-lt-MAX_STATE+else-room-n, else-room-lt-MAX_STATE}
 
-pub returns-then-room-ge-MAX_STATE : goal.returns-then-room-ge-MAX_STATE
-returns-then-room-ge-MAX_STATE c = record {
-  room_after = fits_all c.args.m c.requires.few c.if-room-ge-MAX_STATE.true c.text-e.ensures;
-  small = room_enough c.args.m c.requires.few c.text-e.ensures;
-  short = text_short c.args.m c.requires.few c.text-e.ensures;
-}
-
-pub returns-then-room-n : goal.returns-then-room-n
-returns-then-room-n c = record {
-  room_after = too_short c.text-n.ensures c.if-room-n.true;
-  small = room_enough c.args.m c.requires.few c.text-n.ensures;
-  short = text_short c.args.m c.requires.few c.text-n.ensures;
-}
-
-pub returns : goal.returns
-returns c = record {
-  room_after = fits c.text-n.ensures c.if-room-n.false c.text-e-2.ensures;
-  small = room_enough c.args.m c.requires.few c.text-e-2.ensures;
-  short = text_short c.args.m c.requires.few c.text-n.ensures;
-}
+pub returns-clause-room_after : goal.returns-clause-room_after
+returns-clause-room_after c =
+    elim c.if-room-lt-MAX_STATE.branch [
+      | then-room-lt-MAX_STATE+else-room-n w ↦ fits w.text-n.ensures w.if-room-n.false c.text.ensures
+      | else-room-lt-MAX_STATE w ↦ fits_all c.args.x.now.m c.requires.few w.if-room-lt-MAX_STATE.false c.text.ensures
+    ]

@@ -1,11 +1,8 @@
 -- A turn for each block.
-use Prim.Native.Nat.{◌-◌, ◌+◌, ◌≤◌}
+use Prim.Native.Nat.{◌+◌}
 use Rattle.state.specs.View.{OWNED, WRITTEN}
 use Rattle.storing.proofs.Carry.{Carried}
 use Rattle.storing.proofs.carry_out.Given as goal
 
 abbrev pub invariant-loop-j : goal.invariant-loop-j
-invariant-loop-j l = (l.j ≤ l.all) × Carried l.m l.t (OWNED + l.n) (WRITTEN + l.t) l.s l.value l.initial.w l.w l.j
-
-abbrev pub decreases-loop-j : goal.decreases-loop-j
-decreases-loop-j l = l.all - l.j
+invariant-loop-j l = Carried l.m l.t (OWNED + l.n) (WRITTEN + l.t) l.s l.value l.initial.w l.w l.j

@@ -1,32 +1,16 @@
 -- A turn for each sheet of the block.
-use native.Mathlib.Omega.{arith}
-use Rattle.sets.proofs.Loops.{some_left, at_digit}
+use Rattle.sets.proofs.Loops.{at_digit}
 use Rattle.storing.proofs.Carry.{storing_first, storing_step, storing_end, at_sheets, rises_here}
 use Rattle.storing.proofs.store_block.Goals as goal
 
-pub loop-left-init : goal.loop-left-init
-loop-left-init c = storing_first c.args.w.now c.ranges.ours.fits
-
-pub overflow_mul-k : goal.overflow_mul-k
-overflow_mul-k c = omega (arith, c.requires)
-
-pub overflow_add-k : goal.overflow_add-k
-overflow_add-k c = let a = at_digit c.loop-left.invariant.over c.loop-left-test.true c.args.j c.requires.5 c.lowest.ensures in omega arith
+pub loop-i-init : goal.loop-i-init
+loop-i-init c = rw (c.into_iter-i-iterator.ensures.into_iter_gives, c.members-i-items.ensures) (storing_first c.args.w.now c.ranges.ours.fits)
 
 pub store_sheet-requires : goal.store_sheet-requires
-store_sheet-requires c = let g = c.loop-left.invariant in let d = c.loop-left-test.true in (c.requires.0, at_sheets g d c.lowest.result c.lowest.ensures c.requires.1, c.requires.2, c.requires.3, (at_digit g.over d c.args.j c.requires.5 c.lowest.ensures).1, rises_here g d c.lowest.result c.lowest.ensures c.requires.6)
+store_sheet-requires c = let g = c.loop-i.invariant in let n = c.in-Some.ensures.steps in (c.requires.0, at_sheets g n.0 c.in-Some.i n.1 c.requires.1, c.requires.2, c.requires.3, (at_digit g.over n.0 c.args.j c.requires.5 n.1).1, rises_here g n.0 c.in-Some.i n.1 c.requires.6)
 
-pub rest-left-requires : goal.rest-left-requires
-rest-left-requires c = some_left c.loop-left-test.true
-
-pub loop-left-smaller : goal.loop-left-smaller
-loop-left-smaller c = c.rest-left.ensures.less
-
-pub loop-left-preserved : goal.loop-left-preserved
-loop-left-preserved c = storing_step c.loop-left.invariant c.loop-left-test.true c.lowest.result c.lowest.ensures c.rest-left.ensures c.store_sheet.ensures
-
-pub shape_of-w : goal.shape_of-w
-shape_of-w c = c.loop-left.invariant.got.long
+pub loop-i-preserved : goal.loop-i-preserved
+loop-i-preserved c = let n = c.in-Some.ensures.steps in storing_step c.loop-i.invariant n.0 c.in-Some.i n.1 n.2 c.store_sheet.ensures
 
 pub returns : goal.returns
-returns c = storing_end c.loop-left.invariant c.loop-left-test.false
+returns c = storing_end c.loop-i.invariant c.in-None.ensures.steps.0

@@ -1,48 +1,51 @@
 -- A refusal for each test, the first run, a wide one, the commit.
-use mathlib.Core.Path.{refl, sym, ◌∙◌}
+use mathlib.Core.Path.{sym, ◌∙◌}
 use native.Mathlib.Omega.{arith}
-use borrow.Author.Tests.{le-ltb}
-use Rattle.state.proofs.Steps.{refused}
+use Rattle.state.specs.View.{tables}
 use Rattle.submits.proofs.Submitting.{out, first_fits, first_joins, left_fits, wide_joins, commits, commits_keeps}
+use Rattle.std.proofs.Common.{rules}
 use Rattle.submits.proofs.submit.Goals as goal
 
-pub returns-then-t-ge-SAVE_NUMBERS : goal.returns-then-t-ge-SAVE_NUMBERS
-returns-then-t-ge-SAVE_NUMBERS c = record {
-  moves = λ x. refused (λ tally. simp (le-ltb _ _ c.if-t-ge-SAVE_NUMBERS.true));
-  kept = λ x f. f;
-}
-
 pub join-requires : goal.join-requires
-join-requires c = first_fits c.requires c.args.t c.if-t-ge-SAVE_NUMBERS.false refl c.if-p-eq-FIRST_RUN.true
+join-requires c = first_fits c.requires c.in_ok-i.ensures c.if-p-eq-FIRST_RUN.true
 
 pub returns-then-p-eq-FIRST_RUN : goal.returns-then-p-eq-FIRST_RUN
 returns-then-p-eq-FIRST_RUN c =
-    let all = (first_joins c.requires c.args.t c.if-t-ge-SAVE_NUMBERS.false refl c.if-p-eq-FIRST_RUN.true c.join.ensures) in record {
-      moves = all.0;
-      kept = all.1;
+    let x = tables c.args.x.now in
+    let all = first_joins c.requires c.in_ok-i.ensures c.if-p-eq-FIRST_RUN.true c.join.ensures in record {
+      moves = all.0 x;
+      kept = all.1 x;
+      only = search rules;
     }
+
+pub returns-then-p-ne-SECOND_RUN-clause-moves : goal.returns-then-p-ne-SECOND_RUN-clause-moves
+returns-then-p-ne-SECOND_RUN-clause-moves c =
+    out c.requires c.in_ok-i.ensures c.out_of_phase.ensures c.if-p-eq-FIRST_RUN.false c.if-p-ne-SECOND_RUN.true (tables c.args.x.now)
+
+pub is_wide-requires : goal.is_wide-requires
+is_wide-requires c = let k = c.requires.kept in let row = c.in_ok-i.ensures in rw row.0 (k.sized.sets, c.requires.known.sheets16, row.1, k.sets)
 
 pub leave-requires : goal.leave-requires
-leave-requires c = let z = c.requires.kept in (z.sized.sets, z.sized.queues, c.requires.known.sheets16, c.if-t-ge-SAVE_NUMBERS.false, omega (arith, c.if-t-ge-SAVE_NUMBERS.false), z.sets.ends)
+leave-requires c = let z = c.requires.kept in let row = c.in_ok-i.ensures in
+    rw row.0 (z.sized.sets, z.sized.queues, c.requires.known.sheets16, row.1, omega (arith, row.1), z.sets.ends)
 
-pub join-requires-then-w : goal.join-requires-then-w
-join-requires-then-w c = left_fits c.requires c.args.t c.if-t-ge-SAVE_NUMBERS.false refl c.if-p-eq-SECOND_RUN.true c.leave.ensures c.give_place.ensures
+pub join-requires-then-is_wide : goal.join-requires-then-is_wide
+join-requires-then-is_wide c = left_fits c.requires c.in_ok-i.ensures c.if-p-ne-SECOND_RUN.false c.leave.ensures c.give_place.ensures
 
-pub returns-then-w : goal.returns-then-w
-returns-then-w c =
-    let all = (wide_joins c.requires c.args.t c.if-t-ge-SAVE_NUMBERS.false refl c.if-p-eq-SECOND_RUN.true c.leave.ensures c.give_place.ensures c.join-then-w.ensures (sym c.if-w.true ∙ c.is_wide-w.ensures)) in record {
-      moves = all.0;
-      kept = all.1;
+pub returns-then-is_wide : goal.returns-then-is_wide
+returns-then-is_wide c =
+    let x = tables c.args.x.now in
+    let wide = sym c.if-is_wide.true ∙ c.is_wide.ensures in
+    let all = wide_joins c.requires c.in_ok-i.ensures c.if-p-ne-SECOND_RUN.false c.leave.ensures c.give_place.ensures c.join-then-is_wide.ensures wide in record {
+      moves = all.0 x;
+      kept = all.1 x;
+      only = search rules;
     }
 
-pub returns-then-p-eq-SECOND_RUN : goal.returns-then-p-eq-SECOND_RUN
-returns-then-p-eq-SECOND_RUN c = record {
-  moves = commits c.requires c.args.t c.if-t-ge-SAVE_NUMBERS.false refl c.if-p-eq-SECOND_RUN.true (sym c.if-w.false ∙ c.is_wide-w.ensures);
-  kept = commits_keeps c.requires c.args.t c.if-t-ge-SAVE_NUMBERS.false refl;
-}
-
 pub returns : goal.returns
-returns c = record {
-  moves = out c.requires c.args.t c.if-t-ge-SAVE_NUMBERS.false refl c.out_of_phase-r.ensures c.if-p-eq-FIRST_RUN.false c.if-p-eq-SECOND_RUN.false;
-  kept = λ x f. f;
-}
+returns c =
+    let x = tables c.args.x.now in record {
+      moves = commits c.requires c.in_ok-i.ensures c.if-p-ne-SECOND_RUN.false (sym c.if-is_wide.false ∙ c.is_wide.ensures) x;
+      kept = commits_keeps c.requires c.in_ok-i.ensures x;
+      only = search rules;
+    }

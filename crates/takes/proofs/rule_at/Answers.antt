@@ -3,15 +3,15 @@ use Rattle.state.specs.declared.Rule.TheVariants.{XGranted, XWaiting, CounterBeh
 use Rattle.takes.proofs.Ruling.{ahead_queued, x_ahead, rule_by}
 use Rattle.takes.proofs.rule_at.Goals as goal
 
-pub front_is-g-requires : goal.front_is-g-requires
-front_is-g-requires c = let p = c.requires in let q = c.args.q.now in
-    (omega (arith, p.0), p.4 _ (ahead_queued q c.args.m c.args.t c.args.k p.2 p.3 c.both.result c.both-x.result c.both.ensures c.both-x.ensures), x_ahead q c.args.m c.args.t c.args.k p.2 p.3 c.both.result c.both-x.result c.both.ensures c.both-x.ensures p.5)
+pub front_is-requires : goal.front_is-requires
+front_is-requires c = let p = c.requires in let q = c.args.x.now.queues.now in let m = c.args.x.now.m in
+    (omega (arith, p.0), p.4 _ (ahead_queued q m c.args.t c.args.k c.requires.2 c.requires.3 c.both-all.result c.both-xs.result c.both-all.ensures c.both-xs.ensures), x_ahead q m c.args.t c.args.k c.requires.2 c.requires.3 c.both-all.result c.both-xs.result c.both-all.ensures c.both-xs.ensures p.5)
 
-pub returns-then-g : goal.returns-then-g
-returns-then-g c = rule_by c.args.q.now c.args.m c.args.t c.args.k c.requires.2 c.requires.3 c.both.result c.both-x.result c.both.ensures c.both-x.ensures XGranted (rw (← c.front_is-g.ensures, c.if-g.true))
+pub returns-then-front_is : goal.returns-then-front_is
+returns-then-front_is c = rule_by c.args.x.now.queues.now c.args.x.now.m c.args.t c.args.k c.requires.2 c.requires.3 c.both-all.result c.both-xs.result c.both-all.ensures c.both-xs.ensures XGranted (rw (← c.front_is.ensures, c.if-front_is.true))
 
-pub returns-then-h : goal.returns-then-h
-returns-then-h c = rule_by c.args.q.now c.args.m c.args.t c.args.k c.requires.2 c.requires.3 c.both.result c.both-x.result c.both.ensures c.both-x.ensures XWaiting (rw (← c.front_is-g.ensures, c.if-g.false, ← c.some-h.ensures, c.if-h.true))
+pub returns-then-some : goal.returns-then-some
+returns-then-some c = rule_by c.args.x.now.queues.now c.args.x.now.m c.args.t c.args.k c.requires.2 c.requires.3 c.both-all.result c.both-xs.result c.both-all.ensures c.both-xs.ensures XWaiting (rw (← c.front_is.ensures, c.if-front_is.false, ← c.some.ensures, c.if-some.true))
 
 pub returns : goal.returns
-returns c = rule_by c.args.q.now c.args.m c.args.t c.args.k c.requires.2 c.requires.3 c.both.result c.both-x.result c.both.ensures c.both-x.ensures CounterBehind (rw (← c.front_is-g.ensures, c.if-g.false, ← c.some-h.ensures, c.if-h.false))
+returns c = rule_by c.args.x.now.queues.now c.args.x.now.m c.args.t c.args.k c.requires.2 c.requires.3 c.both-all.result c.both-xs.result c.both-all.ensures c.both-xs.ensures CounterBehind (rw (← c.front_is.ensures, c.if-front_is.false, ← c.some.ensures, c.if-some.false))

@@ -1,50 +1,41 @@
-use mathlib.Core.Path.{refl, ◌∙◌}
+use mathlib.Core.Path.{refl}
 use native.Mathlib.Omega.{arith}
-use lib.ListN.{length-set}
-use Rattle.takes.proofs.Nexts.{keeps, out_node, node8, out_places, save32, kept_former, moves_former, last_before, moves_last, kept_last}
+use Rattle.state.specs.View.{tables}
+use Rattle.takes.proofs.Nexts.{keeps, node8, out_places, save32, kept_former, moves_former, last_before, moves_last, kept_last}
 use Rattle.takes.proofs.take.Goals as goal
 
-pub returns-then-b-n : goal.returns-then-b-n
-returns-then-b-n c = record {
-  moves = out_node c.requires.0 c.args.seen.now c.args.w.now c.args.n c.if-b-n.true;
-  kept = λ x f. f;
-}
+pub returns-then-x-p-clause-moves : goal.returns-then-x-p-clause-moves
+returns-then-x-p-clause-moves c = let x = c.args.x.now in out_places c.requires.0 x.seen.now x.sheets.now c.args.n c.if-x-n.false c.if-x-p.true (tables x)
 
-pub returns-then-q-p : goal.returns-then-q-p
-returns-then-q-p c = record {
-  moves = out_places c.requires.0 c.args.seen.now c.args.w.now c.args.n c.if-b-n.false c.if-q-p.true;
-  kept = λ x f. f;
-}
+pub bounds-x-i : goal.bounds-x-i
+bounds-x-i c =
+    let x = c.args.x.now in let r = c.requires.0 in
+    let z = r.kept.sized.queues in
+    let t32 = save32 r x.seen.now x.sheets.now c.args.n c.if-x-n.false refl c.if-x-p.false refl in
+    omega arith
 
-pub overflow_cast-ti : goal.overflow_cast-ti
-overflow_cast-ti c = let z = c.requires.0.kept.sized.queues in let t32 = save32 c.requires.0 c.args.seen.now c.args.w.now c.args.n c.if-b-n.false refl c.if-q-p.false refl in omega arith
+pub returns-then-last-p-clause-moves : goal.returns-then-last-p-clause-moves
+returns-then-last-p-clause-moves c = let x = c.args.x.now in
+    moves_former c.requires.0 x.seen.now x.sheets.now c.args.n c.if-x-n.false refl c.if-x-p.false refl c.if-last-p.true (tables x)
 
-pub overflow_add-last : goal.overflow_add-last
-overflow_add-last c = let z = c.requires.0.kept.sized.queues in let t32 = save32 c.requires.0 c.args.seen.now c.args.w.now c.args.n c.if-b-n.false refl c.if-q-p.false refl in omega arith
+pub returns-then-last-p-clause-kept : goal.returns-then-last-p-clause-kept
+returns-then-last-p-clause-kept c = let x = c.args.x.now in
+    keeps (kept_former c.requires.0 x.seen.now x.sheets.now c.args.n c.if-x-n.false refl c.if-x-p.false refl) (tables x)
 
-pub offset_bounds-q-ti : goal.offset_bounds-q-ti
-offset_bounds-q-ti c = let z = c.requires.0.kept.sized.queues in let t32 = save32 c.requires.0 c.args.seen.now c.args.w.now c.args.n c.if-b-n.false refl c.if-q-p.false refl in omega arith
-
-pub bounds-q-ti : goal.bounds-q-ti
-bounds-q-ti c = let z = c.requires.0.kept.sized.queues in let t32 = save32 c.requires.0 c.args.seen.now c.args.w.now c.args.n c.if-b-n.false refl c.if-q-p.false refl in omega arith
-
-pub returns-then-last-p : goal.returns-then-last-p
-returns-then-last-p c = let nn = c.if-b-n.false in let nx = c.if-q-p.false in
-    record {
-      moves = moves_former c.requires.0 c.args.seen.now c.args.w.now c.args.n nn refl nx refl c.if-last-p.true;
-      kept = keeps (kept_former c.requires.0 c.args.seen.now c.args.w.now c.args.n nn refl nx refl);
-    }
-
-pub take_last-v-requires : goal.take_last-v-requires
-take_last-v-requires c = let nn = c.if-b-n.false in let nx = c.if-q-p.false in let r = c.requires.0 in let seen = c.args.seen.now in let w = c.args.w.now in let n = c.args.n in
+pub take_last-requires : goal.take_last-requires
+take_last-requires c =
+    let x = c.args.x.now in let r = c.requires.0 in let n = c.args.n in let nn = c.if-x-n.false in let nx = c.if-x-p.false in
+    let seen = x.seen.now in let w = x.sheets.now in
     (kept_former r seen w n nn refl nx refl, last_before r seen w n nn refl nx refl c.if-last-p.false, c.requires.1, c.requires.2, r.known.sheets16, node8 r seen w n nn, save32 r seen w n nn refl nx refl)
 
-pub shape_of-q : goal.shape_of-q
-shape_of-q c = c.take_last-v.ensures.entered.long ∙ length-set c.args.q.now _ _
+pub returns-clause-moves : goal.returns-clause-moves
+returns-clause-moves c =
+    let x = c.args.x.now in let o = c.take_last.ensures.only in
+    rw (o.same.0, o.value, o.seen, o.sheets)
+    (moves_last c.requires.0 x.seen.now x.sheets.now c.args.n c.if-x-n.false refl c.if-x-p.false refl c.if-last-p.false c.take_last.ensures.taken (tables x))
 
-pub returns : goal.returns
-returns c = let nn = c.if-b-n.false in let nx = c.if-q-p.false in let r = c.requires.0 in let seen = c.args.seen.now in let w = c.args.w.now in let n = c.args.n in let tk = c.take_last-v.ensures in let th = c.if-last-p.false in
-    record {
-      moves = moves_last r seen w n nn refl nx refl th tk;
-      kept = keeps (kept_last r seen w n nn refl nx refl th tk);
-    }
+pub returns-clause-kept : goal.returns-clause-kept
+returns-clause-kept c =
+    let x = c.args.x.now in let o = c.take_last.ensures.only in
+    rw (o.same.0, o.value, o.seen, o.sheets)
+    (keeps (kept_last c.requires.0 x.seen.now x.sheets.now c.args.n c.if-x-n.false refl c.if-x-p.false refl c.if-last-p.false c.take_last.ensures.taken) (tables x))

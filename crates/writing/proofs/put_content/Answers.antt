@@ -1,16 +1,11 @@
-use lib.ListN.{length-set}
+-- Four bytes written over at once.
+use mathlib.Core.Path.{refl, ◌∙◌}
+use Rattle.text.proofs.Writing.{wrote_length}
 use Rattle.writing.proofs.Putting.{four_wrote}
-use borrow.Author.Rules.{rules}
 use Rattle.writing.proofs.put_content.Goals as goal
 
-pub bounds-buf-at-2 : goal.bounds-buf-at-2
-bounds-buf-at-2 c = simp length-set (search rules)
-
-pub bounds-buf-at-3 : goal.bounds-buf-at-3
-bounds-buf-at-3 c = simp length-set (search rules)
-
-pub bounds-buf-at-4 : goal.bounds-buf-at-4
-bounds-buf-at-4 c = simp length-set (search rules)
-
 pub returns : goal.returns
-returns c = four_wrote c.args.buf.now c.args.at c.args.v
+returns c =
+    let w = c.args.out.now in
+    let p = four_wrote w.buf.now _ w.at c.args.v (c.copy_from_slice.ensures.after ∙ c.to_be_bytes.ensures) c.requires in
+    record { same = refl; long = wrote_length p; wrote = p }

@@ -2,22 +2,22 @@
 use mathlib.Core.Path.{sym, ◌∙◌}
 use native.Mathlib.Omega.{arith}
 use Rattle.forms.proofs.Shapes.{size_small}
-use Rattle.text.proofs.Writing.{wrote_length}
+use Rattle.text.proofs.Writing.{writes_then}
 use Rattle.writing.proofs.Putting.{own_one, own_two}
 use Rattle.writing.proofs.put_own.Goals as goal
 
-pub put-f-requires : goal.put-f-requires
-put-f-requires c = omega (arith, wrote_length c.put-e.ensures, size_small c.args.c c.requires.0)
+pub put-requires-2 : goal.put-requires-2
+put-requires-2 c = omega (arith, size_small c.args.kind.number c.args.kind.known)
 
-pub returns-then-size-eq-SHORTEST : goal.returns-then-size-eq-SHORTEST
-returns-then-size-eq-SHORTEST c z =
+pub put-requires-then-size-ne-SHORTEST : goal.put-requires-then-size-ne-SHORTEST
+put-requires-then-size-ne-SHORTEST c = omega (arith, size_small c.args.kind.number c.args.kind.known)
+
+pub returns-then-size-ne-SHORTEST : goal.returns-then-size-ne-SHORTEST
+returns-then-size-ne-SHORTEST c z =
     let a = c.args in
-    own_one a.c a.x a.y z c.requires.0 c.put-e.ensures c.put-f.ensures (sym c.size.ensures ∙ c.if-size-eq-SHORTEST.true)
+    own_two a.kind.number a.x a.y z a.kind.known (λ e. c.if-size-ne-SHORTEST.true (c.size.ensures ∙ e)) c.requires.0 (writes_then (writes_then c.put.ensures c.put-2.ensures) c.put-then-size-ne-SHORTEST.ensures)
 
-pub put-requires : goal.put-requires
-put-requires c = omega (arith, wrote_length c.put-e.ensures, wrote_length c.put-f.ensures, size_small c.args.c c.requires.0)
-
-pub returns : goal.returns
-returns c z =
+pub returns-else-size-ne-SHORTEST : goal.returns-else-size-ne-SHORTEST
+returns-else-size-ne-SHORTEST c z =
     let a = c.args in
-    own_two a.c a.x a.y z c.requires.0 c.put-e.ensures c.put-f.ensures (λ e. c.if-size-eq-SHORTEST.false (c.size.ensures ∙ e)) c.requires.1 c.put.ensures
+    own_one a.kind.number a.x a.y z a.kind.known (sym c.size.ensures ∙ c.if-size-ne-SHORTEST.false) (writes_then c.put.ensures c.put-2.ensures)

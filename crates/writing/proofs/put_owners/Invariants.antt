@@ -1,11 +1,7 @@
--- Before owner k the first k owners stand there.
-use Prim.Native.Nat.{◌-◌, ◌≤◌}
-use lib.ListN.{length, take}
-use Rattle.text.specs.Wrote.{Wrote}
+-- Before each owner those before it stand there.
+use lib.ListN.{take}
+use Rattle.text.specs.Writes.{Writes}
 use Rattle.writing.proofs.put_owners.Given as goal
 
-abbrev pub invariant-loop-k : goal.invariant-loop-k
-invariant-loop-k l = (l.k ≤ length l.owners) × Wrote l.initial.buf l.at (take l.k l.owners) l.k l.e l.buf
-
-abbrev pub decreases-loop-k : goal.decreases-loop-k
-decreases-loop-k l = length l.owners - l.k
+abbrev pub invariant-loop-owner : goal.invariant-loop-owner
+invariant-loop-owner l = Writes l.initial.out l.out (take l.owner-index l.owners) l.owner-index

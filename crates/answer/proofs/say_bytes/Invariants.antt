@@ -1,9 +1,0 @@
--- Byte by byte.
-use Rattle.std.proofs.Common.{length, ◌-◌, ◌≤◌}
-use Rattle.answer.proofs.say_bytes.Given as goal
-
-abbrev pub invariant-loop-i : goal.invariant-loop-i
-invariant-loop-i g l = l.i ≤ length l.bytes
-
-abbrev pub decreases-loop-i : goal.decreases-loop-i
-decreases-loop-i g l = length l.bytes - l.i
