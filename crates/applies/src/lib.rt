@@ -7,7 +7,7 @@ ghost use Rattle.rules.specs.Table.{any};
 ghost use Rattle.sets.specs.Bit.{in_row, stride, blocks};
 ghost use Rattle.state.specs.View.{rows, HELD, OWNED};
 ghost use Rattle.state.specs.Fit.{Ends, Table, ReadyIn, Rising};
-ghost use Rattle.state.specs.Lent.{applying, Only, Moves, Keeps};
+ghost use Rattle.state.specs.Lent.{applying, Only, Alone, Moves, Keeps};
 ghost use Rattle.applies.specs.Counts.{Counts};
 
 use refusals::Refusal;
@@ -34,6 +34,8 @@ pub fn apply(x: &mut Session, n: u8, t: u8) -> Result<Answer, Refusal>
     ensures kept { Keeps x.old x.new }
     ensures marks { Counts x.old n t x.new result }
     ensures only { Only (applying x.old.bytes.now x.new.sets.now x.new.queues.now x.old.value.now x.new.sheets.now) x.old x.new }
+    ensures alone { Alone x.old.m (applying x.old.bytes.now x.old.sets.now x.old.queues.now x.old.value.now x.old.sheets.now) (Apply n t)
+        (applying x.old.bytes.now x.new.sets.now x.new.queues.now x.old.value.now x.new.sheets.now) result }
 {
     if x.bytes[Session::NODE_COUNT] <= n {
         return Err(Refusal::OutOfRange);

@@ -7,7 +7,7 @@ use native.Mathlib.Omega.{arith}
 use lib.ListN.{length, get_or, set, take, drop, length-drop}
 use lib.Seq.{sets, set_out, take-suc, take-append_seam}
 use Rattle.std.proofs.lemmas.List.{take-append-drop}
-use Rattle.rules.specs.Report.{Filled}
+use Rattle.rules.specs.Report.{Filled, field}
 use Rattle.text.specs.Wrote.{Wrote}
 use Rattle.text.specs.declared.Writer.{Writer}
 use Rattle.text.specs.Writes.{Writes}
@@ -20,6 +20,10 @@ sets_past l a (b ∷ x) h = rw (set_out l a b h) (sets_past l (suc a) x (omega a
 -- no byte changes
 pub past_end : {l x : List ℕ} {a b : ℕ} → b ≡ a + length x → length l ≤ a → Wrote l a x (length x) b l
 past_end {l} {x} {a} {b} e h = record { ends = e; bytes = sym (sets_past l a x h); short = omega arith }
+
+-- nor of a field, of which only the size is asked
+pub field_past : {l : List ℕ} {a z : ℕ} (n : ℕ) → z ≡ length (field n) → z ≤ 11 → length l ≤ a → Wrote l a (field n) 11 (a + z) l
+field_past {l} {a} {z} n e s h = record { ends = omega arith; bytes = sym (sets_past l a (field n) h); short = omega arith }
 
 one_more : (t : List ℕ) (i : ℕ) → i < length t → take i t ++ get_or t i 0 ∷ [] ≡ take (i + 1) t
 one_more t i h = rw (add-one i) (sym (take-suc t i 0 h))

@@ -83,12 +83,16 @@ impl<'a> Room<'a> {
     }
 }
 
-// A blank and a number, written aside and copied. Kept: it takes the buffer and the place, as a room that is lent to what is not inlined stays in memory.
+// A blank and a number, written aside and copied; past the room's end they are only counted. Kept: it takes the buffer and the place, as a room that is
+// lent to what is not inlined stays in memory.
 #[inline(never)]
 fn field_aside(bytes: &mut [u8], at: usize, n: u32) -> usize
     requires { at + 11 ≤ most }
     ensures { Wrote bytes.old at (rules.field n) 11 result bytes.new }
 {
+    if bytes.len() <= at {
+        return at + text::field_size(n);
+    }
     let mut figures = [0u8; 11];
     let mut w = Writer {
         buf: &mut figures,

@@ -45,6 +45,9 @@ told r x q h e = rw q ((decoded (calls.answers (value_of x)) h e).1)
 pub none_told : (r : Result (Option Reply) Refused) (l : Option Reply) {n : ℕ} → r ≡ Ok l → l ≡ None → n ≡ coded 0 0 0 → answer_of n ≡ reply_of r
 none_told r l q p e = rw (q, p) ((decoded calls.no_command tt e).1)
 
+pub told_number : (p c : ℕ) {n : ℕ} → c < 256 → p ≤ max_session → n ≡ coded 7 (min p last_place) c → (n ≡ answer_code (calls.refusal p c)) × (answer_of n ≡ calls.refusal p c)
+told_number p c f h e = let m : min p last_place ≡ p = min-eq_left (omega arith) in decoded (calls.refusal p c) (omega arith, f) (rw m at e)
+
 pub told_refused : (x : Refused) {n : ℕ} → x.place ≤ max_session → n ≡ coded 7 (min x.place last_place) (number_of x.why)
     → (n ≡ answer_code (calls.refusal x.place (number_of x.why))) × (answer_of n ≡ calls.refusal x.place (number_of x.why))
 told_refused x h e =
@@ -54,6 +57,9 @@ told_refused x h e =
 -- ---- Calls that write into a room
 
 -- a refusal's place, as far as a code holds it
+pub number_told : (p c : ℕ) {k : ℕ} → c < 256 → k ≡ coded 7 (min p last_place) c → (k ≡ outcome_code (lists.refuse_with (lists.at p c))) × (outcome_in k ≡ as_told (lists.refuse_with (lists.at p c)))
+number_told p c f e = told_as (lists.refuse_with (lists.at p c)) f e
+
 pub refused_told : (r : Refused) {k : ℕ} → k ≡ coded 7 (min r.place last_place) (number_of r.why) → (k ≡ outcome_code (lists.refuse_with (refused_at r))) × (outcome_in k ≡ as_told (lists.refuse_with (refused_at r)))
 refused_told r e = told_as (lists.refuse_with (refused_at r)) (few_numbers r.why) e
 

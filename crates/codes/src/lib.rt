@@ -1,10 +1,11 @@
 // Answers as numbers, for the host: a host in C can't take an enum.
 #![tactic(auto)]
 
-ghost use Rattle.std.specs.Prelude.{◌≡◌, ◌<◌};
+ghost use Rattle.std.specs.Prelude.{◌≡◌, ◌<◌, ◌≤◌};
 ghost use Rattle.rules.specs.Steps.{took};
-ghost use Rattle.rules.specs.Calls.{answers};
-ghost use Rattle.rules.specs.Writing.{refuse_with};
+ghost use Rattle.rules.specs.Sizes.{max_session};
+ghost use Rattle.rules.specs.Calls.{refusal, answers};
+ghost use Rattle.rules.specs.Writing.{at, refuse_with};
 ghost use Rattle.wire.specs.Refusing.{refused_at, outcome_of};
 ghost use Rattle.session.specs.Meaning.{value_of, reply_of, NearVerdict, Near};
 ghost use Rattle.state.specs.View.{verdict_of};
@@ -42,12 +43,21 @@ fn take_code(t: u8, v: Verdict) -> u64
     }
 }
 
+// A refusal by its place and its number.
+pub fn number_code(place: usize, number: u8) -> u64
+    ensures value { result ≡ outcome_code (refuse_with (at place number)) }
+    ensures decoded { outcome_in result ≡ as_told (refuse_with (at place number)) }
+    ensures answer { place ≤ max_session → (result ≡ answer_code (refusal place number)) × (answer_of result ≡ refusal place number) }
+{
+    code(7, place.min(LAST_PLACE) as u64, number)
+}
+
 // A refusal with its place.
 pub fn refusal_code(r: Refused) -> u64
     ensures value { result ≡ outcome_code (refuse_with (refused_at r)) }
     ensures decoded { outcome_in result ≡ as_told (refuse_with (refused_at r)) }
 {
-    code(7, r.place.min(LAST_PLACE) as u64, u8::from(r.why))
+    number_code(r.place, u8::from(r.why))
 }
 
 // An accepted command's answer.

@@ -7,7 +7,7 @@ ghost use Rattle.sets.specs.Bit.{in_row, stride};
 ghost use Rattle.queues.specs.Front.{Ranked, fronted};
 ghost use Rattle.state.specs.View.{ORDER, PHASE, COPIED, QUEUE, queue_of, queue_x_of, queued, queued_x};
 ghost use Rattle.state.specs.Fit.{Table, ReadyIn, Rising};
-ghost use Rattle.state.specs.Lent.{writing, all, Only, Moves, Keeps};
+ghost use Rattle.state.specs.Lent.{writing, all, Only, Alone, Moves, Keeps};
 ghost use Rattle.copies.specs.Barred.{barred_by, Barred};
 ghost use Rattle.copies.specs.Copies.{Copies};
 
@@ -82,6 +82,8 @@ pub fn write(x: &mut Session, t: u8, k: usize, v: u32) -> Result<Answer, Refusal
     ensures moves { Moves x.old (Write t k v) x.new result }
     ensures kept { Keeps x.old x.new }
     ensures only { Only (writing x.old.bytes.now x.new.sets.now x.new.value.now) x.old x.new }
+    ensures alone { Alone x.old.m (writing x.old.bytes.now x.old.sets.now x.old.value.now) (Write t k v)
+        (writing x.old.bytes.now x.new.sets.now x.new.value.now) result }
 {
     barred(x, t, k)?;
     let i = t as usize;

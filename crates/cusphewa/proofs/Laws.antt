@@ -1,9 +1,9 @@
 -- The calls' needs, each as one law in plain variables.
-use Prim.Native.Nat.{ℕ, ◌+◌, ◌-◌, ◌*◌, ◌/◌, ◌%◌, ◌^◌, ◌≤◌, ◌<◌}
+use Prim.Native.Nat.{ℕ, ◌+◌, ◌-◌, ◌*◌, ◌/◌, ◌%◌, ◌^◌, ◌<◌}
 use mathlib.Core.Path.{◌≡◌, refl, sym, ap, ◌∙◌}
 use mathlib.Core.List.{List}
 use native.Mathlib.Omega.{arith}
-use lib.ListN.{length, take, drop, length-drop}
+use lib.ListN.{length, take, drop}
 use Rattle.std.specs.Prelude.{Result, Ok, Err, Option, None}
 use Rattle.std.specs.Prelude as std
 use Rattle.rules.specs.Calls as calls
@@ -15,11 +15,9 @@ use Rattle.rules.proofs.Sessions.{stop_final, reply_final, stop_unopened, reply_
 use Rattle.refusals.specs.declared.Refusal.TheVariants.{BadHeader}
 use Rattle.refusals.specs.declared.Refused.{Refused}
 use Rattle.wire.specs.declared.Header.{Header}
-use Rattle.wire.specs.Meaning.{opened, front_in, shown_in}
-use Rattle.wire.proofs.Front.{rest}
+use Rattle.wire.specs.Meaning.{opened}
 use Rattle.wire.proofs.Headers.{opens_has}
 use Rattle.wire.proofs.Opening.{opening, unopened}
-use Rattle.wire.proofs.Rest.{shown_few}
 use Rattle.session.specs.declared.Reply.{Reply}
 use Rattle.session.specs.declared.Ended.{Ended}
 use Rattle.session.specs.Meaning.{stop_at, last_of, reply_of}
@@ -67,17 +65,15 @@ module _ (b : List ℕ) (h : Header) (e : opened b ≡ std.Some h) (r : Ended) (
   unfolding calls.part
   part_end q = let o = opening b h e in record { part = rw (← stops_at b h e r v, q); within = omega arith; near = omega (arith, (opens_has b o.opened_well).0.size) }
 
-  pub part_refused : (x : Refused) → r.stop ≡ Err x → {z : ℕ} → z ≡ shown_in (front_in (take (length b - x.place) (drop x.place b))) (length (take (length b - x.place) (drop x.place b))) → PartOf b x.place z
+  pub part_refused : (x : Refused) → r.stop ≡ Err x → PartOf b x.place r.shown
   unfolding calls.part
-  part_refused x q {z} ez =
+  part_refused x q =
       let o = opening b h e in
-      let k = within b h e r v x q in
-      let y : z ≡ shown_in (front_in (drop x.place b)) (length b - x.place) = ez ∙ rw (rest b x.place, length-drop x.place b) in
-      let l = shown_few (drop x.place b) in
-      let f : z ≤ length b - x.place = rw (y, ← length-drop x.place b) l in
+      let y = rw q at v.shown in
+      let l = y.1 in
       record {
-        part = rw (← stops_at b h e r v, q) (ap (λ (n : ℕ). record { from = x.place; size = n }) y);
-        within = omega arith;
+        part = rw (← stops_at b h e r v, q) (ap (λ (n : ℕ). record { from = x.place; size = n }) y.0);
+        within = l;
         near = omega (arith, (opens_has b o.opened_well).0.size);
       }
 

@@ -50,9 +50,10 @@ fn part(session: &[u8]) -> (usize, usize)
     let Some(header) = wire::read_header(session) else {
         return (0, 0);
     };
-    match unreported(session, header).stop {
+    let e = unreported(session, header);
+    match e.stop {
         Ok(()) => (session.len(), 0),
-        Err(r) => (r.place, wire::shown(&session[r.place..])),
+        Err(r) => (r.place, e.shown),
     }
 }
 

@@ -4,7 +4,7 @@
 ghost use Rattle.rules.specs.Bytes.{Decide};
 ghost use Rattle.sets.specs.Bit.{blocks};
 ghost use Rattle.state.specs.Fit.{ReadyIn};
-ghost use Rattle.state.specs.Lent.{saving, Only, Moves, Keeps};
+ghost use Rattle.state.specs.Lent.{saving, Only, Alone, Moves, Keeps};
 ghost use Rattle.decides.specs.Settling.{Clears, Settles, Cleared, Settled};
 
 use refusals::Refusal;
@@ -38,12 +38,15 @@ fn settle(x: &mut Session, t: usize) -> bool
     false
 }
 
-// A save that did not fail is committed, from its first run or a later one; a failed one runs again.
+// A save that did not fail is committed, from its first run or a later one; a failed one runs again. The run is asked for first, so that every way
+// through has its own answer.
 pub fn decide(x: &mut Session, t: u8) -> Result<Answer, Refusal>
     requires { ReadyIn x.old }
     ensures moves { Moves x.old (Decide t) x.new result }
     ensures kept { Keeps x.old x.new }
     ensures only { Only (saving x.new.bytes.now x.new.sets.now x.old.queues.now) x.old x.new }
+    ensures alone { Alone x.old.m (saving x.old.bytes.now x.old.sets.now x.old.queues.now) (Decide t)
+        (saving x.new.bytes.now x.new.sets.now x.old.queues.now) result }
 {
     let i = state::save_index(t)?;
     let p = x.bytes[Session::PHASE + i];
@@ -57,11 +60,14 @@ pub fn decide(x: &mut Session, t: u8) -> Result<Answer, Refusal>
         return Err(Refusal::NotGranted);
     }
     let runs = x.bytes[Session::RUNS + i];
-    if !settle(x, i) {
+    if runs <= 1 {
+        if settle(x, i) {
+            return Ok(Answer::Commits);
+        }
         return Ok(Answer::SecondRun);
     }
-    if runs <= 1 {
-        return Ok(Answer::Commits);
+    if settle(x, i) {
+        return Ok(Answer::CommitsLater);
     }
-    Ok(Answer::CommitsLater)
+    Ok(Answer::SecondRun)
 }

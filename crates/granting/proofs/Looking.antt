@@ -5,14 +5,14 @@ use mathlib.Core.Bool.{Bool, ◌&&◌, ◌||◌, cond}
 use mathlib.Core.Logic.{◌≢◌}
 use mathlib.Core.List.{List}
 use native.Mathlib.Omega.{arith}
-use lib.ListN.{get_or}
+use lib.ListN.{length, get_or}
 use Rattle.rules.specs.Table.{any}
 use Rattle.rules.proofs.Table.{below?, clash, any_fails, any_cong, any_more}
-use Rattle.sets.specs.Bit.{bit, low, Rest, word, blocks}
+use Rattle.sets.specs.Bit.{bit, low, Rest, word, stride, blocks}
 use Rattle.sets.specs.Loop.{Over, done}
 use Rattle.sets.proofs.Bits.{bit_none}
 use Rattle.sets.proofs.Loops.{over_first, low_small, low_in, over_on, done_here, done_now, done_same, done_none, done_all}
-use Rattle.state.specs.View.{CLAIM, CLAIM_X, QUEUE}
+use Rattle.state.specs.View.{CLAIM, CLAIM_X, QUEUE, rows}
 use Rattle.granting.specs.Granting.{Fits, way, in_ways}
 
 -- `all` are those in the way at the sheets that are done
@@ -29,6 +29,10 @@ going_first s q t j {x} e l = record {
 pub going_end : {s q : List ℕ} {t j all left : ℕ} → Going s q t j all left → left ≡ 0 → (u : ℕ) → bit all u ≡ in_ways s q t j u
 unfolding in_ways
 going_end {s} {q} {t} {j} g e u = g.ways u ∙ any_cong 64 _ _ (λ i _. rw (e, done_all (word s (CLAIM + t) j) i))
+
+-- word j of row i is there
+pub row_word : {m t : ℕ} {s q : List ℕ} → Fits m t s q → {j : ℕ} → j < blocks m → (r : ℕ) → r + 32 < rows → (r + t < rows) × (r + t + stride * j < length s)
+row_word f h r l = let a = f.save in let b = f.sets in (omega arith, omega arith)
 
 -- one sheet more, by the code's own name
 module _ {s q : List ℕ} {t j all left : ℕ} (g : Going s q t j all left) (some : left ≢ 0) {i : ℕ} (ei : i ≡ low left) where

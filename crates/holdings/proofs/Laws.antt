@@ -1,15 +1,17 @@
 -- A save's line for a sheet by what the sets and tables have there.
-use Prim.Native.Nat.{ℕ, ◌+◌, ◌*◌, ◌<◌}
-use mathlib.Core.Path.{◌≡◌, sym, ◌∙◌}
+use Prim.Native.Nat.{ℕ, zero, suc, ◌+◌, ◌*◌, ◌/◌, ◌%◌, ◌≤◌, ◌<◌}
+use mathlib.Core.Path.{◌≡◌, refl, sym, ap, ◌∙◌}
 use mathlib.Core.Bool.{Bool, true, false, ◌||◌}
-use mathlib.Core.List.{List, [], ◌∷◌, ◌++◌}
+use mathlib.Core.List.{List, [], ◌∷◌, ◌++◌, append-nil}
 use native.Mathlib.Omega.{arith}
 use lib.ListN.{get_or}
 use lib.Dec.{ltb}
 use Rattle.rules.specs.State.{State, claims, has_copy}
 use Rattle.rules.specs.Report.{line_end}
-use Rattle.rules.specs.Showing.{holding_head, copy_fields, copy_text, holding_line, holding_text}
-use Rattle.sets.specs.Bit.{in_row}
+use Rattle.rules.specs.Table.{any}
+use Rattle.rules.specs.Showing.{holding_head, copy_fields, copy_text, holding_line, holding_text, rising}
+use Rattle.rules.proofs.Table.{same?, any_none}
+use Rattle.sets.specs.Bit.{bit, word, in_row}
 use Rattle.state.specs.View.{in_set, COPIED, WRITTEN, CLAIM, CLAIM_X}
 use Rattle.state.specs.declared.Session.{Session}
 use Rattle.state.specs.Fit.{ReadyIn, Table}
@@ -72,3 +74,23 @@ module _ {x : Session} (r : Readable x) (t k : ℕ) (th : t < 32) (km : k < x.m)
     pub line_of : h ≡ true → holding_head t k (claim_at s t k) (mark_at s t k) ++ copy_text st t k ++ line_end ∷ [] ≡ holding_text st t k
     unfolding holding_line
     line_of y = rw (shows, y, claim_is, mark_is)
+
+-- ---- Where nothing stands
+
+-- texts of nothing from a to b
+pub rising_same : (f : ℕ → List ℕ) (a b : ℕ) → a ≤ b → ((i : ℕ) → a ≤ i → i < b → f i ≡ []) → rising f b ≡ rising f a
+unfolding rising
+rising_same f a zero l h = let e : 0 ≡ a = omega arith in ap (λ (n : ℕ). rising f n) e
+rising_same f a (suc b) l h = same? a (suc b)
+    (λ e. rw e)
+    (λ d. rw (h b (omega arith) (omega arith), append-nil (rising f b)) (rising_same f a b (omega arith) (λ i k o. h i k (omega arith))))
+
+-- a save with nothing in a block has no line there
+pub block_empty : {x : Session} (r : Readable x) (t j e : ℕ) → t < 32 → {c d : ℕ} → c ≡ word x.sets.now (CLAIM + t) j → d ≡ word x.sets.now (COPIED + t) j
+    → ((i : ℕ) → bit e i ≡ (bit c i || bit d i)) → any 64 (bit e) ≡ false → (k : ℕ) → k < x.m → 64 * j ≤ k → k < 64 * j + 64 → holding_text (held_by x) t k ≡ []
+unfolding in_row
+block_empty {x} r t j e th ec ed ee none k km l h =
+    let kj : k / 64 ≡ j = omega arith in
+    let z = any_none 64 _ none (k % 64) (omega arith) in
+    let q : false ≡ (in_row x.sets.now (CLAIM + t) k || in_row x.sets.now (COPIED + t) k) = rw kj (rw (ec, ed) at (sym z ∙ ee (k % 64))) in
+    no_line r t k th km q refl

@@ -41,14 +41,6 @@ fn mark_letter(s: &[u64], t: usize, k: usize) -> u8
     }
 }
 
-// Save t claims sheet k or has a copy of it: an X is a claim, and what is written is copied.
-fn something(s: &[u64], t: usize, k: usize) -> bool
-    requires { Reach s.now t k }
-    ensures { result ≡ (in_row s.now (CLAIM + t) k || in_row s.now (COPIED + t) k) }
-{
-    state::member(s, Session::CLAIM + t, k) | state::member(s, Session::COPIED + t, k)
-}
-
 // C t k c m
 fn head(room: &mut Room, s: &[u64], t: usize, k: usize)
     requires { Reach s.now t k × (k < 65536) × (room.old.at + 27 ≤ most) }
@@ -90,12 +82,13 @@ fn copy(room: &mut Room, x: &Session, t: usize, k: usize)
     fields(room, v, seen, wct);
 }
 
-// Save t's line for sheet k, if it has one.
-fn holding(room: &mut Room, x: &Session, t: usize, k: usize)
-    requires { Readable x.now × (t < 32) × (k < x.now.m) × (room.old.at + 52 ≤ most) }
+// Save t's line for sheet k, if it has one: where it claims the sheet or has a copy of it. An X is a claim, and what is written is copied.
+fn holding(room: &mut Room, x: &Session, there: bool, t: usize, k: usize)
+    requires { Readable x.now × (there ≡ (in_row x.now.sets.now (CLAIM + t) k || in_row x.now.sets.now (COPIED + t) k)) × (t < 32) × (k < x.now.m)
+        × (room.old.at + 52 ≤ most) }
     ensures { Puts room.old room.new (rules.holding_text (held_by x.now) t k) 52 }
 {
-    if !something(x.sets, t, k) {
+    if !there {
         return;
     }
     head(room, x.sets, t, k);
@@ -103,13 +96,22 @@ fn holding(room: &mut Room, x: &Session, t: usize, k: usize)
     room.put(b'\n');
 }
 
-// Save t's lines.
+// Save t's lines. Most saves have nothing of most sheets: which ones they have is looked up once for 64 sheets, and where there are none they are passed by.
 fn row(room: &mut Room, x: &Session, t: usize)
     requires { Readable x.now × (t < 32) × (room.old.at + 52 * x.now.m ≤ most) }
     ensures { Puts room.old room.new (rising (rules.holding_text (held_by x.now) t) x.now.m) (52 * x.now.m) }
 {
-    for k in 0..x.m {
-        holding(room, x, t, k);
+    let m = x.m;
+    for j in 0..state::blocks(m) {
+        let claimed = state::word(x.sets, Session::CLAIM + t, j);
+        let copied = state::word(x.sets, Session::COPIED + t, j);
+        let some = sets::either(claimed, copied);
+        if !sets::some(some) {
+            continue;
+        }
+        for k in 64 * j..m.min(64 * j + 64) {
+            holding(room, x, sets::has(some, k % 64), t, k);
+        }
     }
 }
 

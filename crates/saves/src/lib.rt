@@ -4,7 +4,7 @@
 ghost use Rattle.std.specs.Prelude.{◌≤◌, ◌<◌, length};
 ghost use Rattle.rules.specs.Bytes.{Begin, GiveUp};
 ghost use Rattle.state.specs.View.{part, ORDER, RUNS};
-ghost use Rattle.state.specs.Lent.{own, Only, Moves, Keeps};
+ghost use Rattle.state.specs.Lent.{own, Only, Alone, Moves, Keeps};
 
 use refusals::Refusal;
 use state::{Answer, DROPPED, FIRST_RUN, Session, UNUSED};
@@ -15,6 +15,7 @@ pub fn begin(x: &mut Session, t: u8) -> Result<Answer, Refusal>
     ensures moves { Moves x.old (Begin t) x.new result }
     ensures kept { Keeps x.old x.new }
     ensures only { Only (own x.new.bytes.now) x.old x.new }
+    ensures alone { Alone x.old.m (own x.old.bytes.now) (Begin t) (own x.new.bytes.now) result }
 {
     let i = state::save_index(t)?;
     let p = x.bytes[Session::PHASE + i];
@@ -32,6 +33,7 @@ pub fn give_up(x: &mut Session, t: u8) -> Result<Answer, Refusal>
     ensures moves { Moves x.old (GiveUp t) x.new result }
     ensures kept { Keeps x.old x.new }
     ensures only { Only (own x.new.bytes.now) x.old x.new }
+    ensures alone { Alone x.old.m (own x.old.bytes.now) (GiveUp t) (own x.new.bytes.now) result }
 {
     let i = state::save_index(t)?;
     state::in_run(x.bytes[Session::PHASE + i])?;

@@ -26,7 +26,7 @@ use Rattle.session.specs.declared.Ended.{Ended}
 use Rattle.session.specs.declared.Reply.{Reply}
 use Rattle.session.specs.Meaning as own
 use Rattle.session.specs.Meaning.{stop_at, reply_in}
-use Rattle.session.specs.Carried.{Within, Carried, filled, lines_of, Answered}
+use Rattle.session.specs.Carried.{Within, Carried, filled, lines_of, ShownOf, Answered}
 
 within_less : (n m : ℕ) (s : Result Unit Refused) → n ≤ m → Within n s → Within m s
 within_less n m (Ok _) l w = tt
@@ -69,8 +69,8 @@ module _ {b : List ℕ} (o : opens b ≡ true) {m : ℕ} {x : Slices} {r : Walke
   pub stop_near : Within max_session r.stop
   stop_near = within_less (length b) max_session r.stop (opens_has b o).0.size v.within
 
-  pub answered : {e : Ended} {l : Option Reply} → e.last ≡ l → l ≡ reply_in r.last → e.stop ≡ r.stop → Answered b e
-  answered ea el es = rw (ea, el, es) record { stops = ap (λ f. f.stop) v.same; replies = ap (λ f. f.last) v.same; within = v.within; near = v.near }
+  pub answered : {e : Ended} {l : Option Reply} → e.last ≡ l → l ≡ reply_in r.last → e.stop ≡ r.stop → ShownOf b r.stop e.shown → Answered b e
+  answered ea el es sh = rw (ea, el, es) record { stops = ap (λ f. f.stop) v.same; shown = sh; replies = ap (λ f. f.last) v.same; within = v.within; near = v.near }
 
 -- the order that the lines show
 pub ordered : {m : ℕ} {b s q : List ℕ} → Ready m b s q → Ordered b q

@@ -1,8 +1,9 @@
 -- What a run over session b leaves.
-use Rattle.std.specs.Prelude.{ℕ, ◌<◌, ◌≡◌, cond, List, [], ◌++◌, length, ltb, Result, Ok, Err}
+use Rattle.std.specs.Prelude.{ℕ, ◌+◌, ◌-◌, ◌<◌, ◌≤◌, ◌≡◌, cond, List, [], ◌++◌, drop, length, ltb, Result, Ok, Err}
 use Rattle.rules.specs.Sizes.{min_buffer}
 use Rattle.rules.specs.Report.{Filled, in_front, state_lines}
 use Rattle.rules.proofs.Sessions.{Final, session_final}
+use Rattle.wire.specs.Meaning.{front_in, shown_in}
 use Rattle.state.specs.Slices.{Slices, slices}
 use Rattle.state.specs.View.{shown}
 use Rattle.state.specs.Fit.{Ready, Fit}
@@ -16,6 +17,11 @@ use Rattle.session.specs.Meaning.{stop_at, stop_line, last_of, reply_in, NearLas
 abbrev pub Within : ℕ → Result Unit Refused → Type 0
 Within n (Ok _) = Unit {0}
 Within n (Err r) = r.place < n
+
+-- so many bytes are shown of what stands there, and they lie in the session
+abbrev pub ShownOf : List ℕ → Result Unit Refused → ℕ → Type 0
+ShownOf b (Ok _) k = k ≡ 0
+ShownOf b (Err r) k = (k ≡ shown_in (front_in (drop r.place b)) (length b - r.place)) × (r.place + k ≤ length b)
 
 -- the slices and what the walk comes to, as the rules have it
 abbrev pub final_of : List ℕ → ℕ → Slices → Walked → Final
@@ -40,9 +46,10 @@ lines_of m b q w r = state_lines (shown m (slices b [] q [] [] w) (figures r.tal
 
 -- ---- The answer
 
--- where the run stops, and the last accepted command's answer
+-- where the run stops, with what is shown of it, and the last accepted command's answer
 pub record Answered (b : List ℕ) (r : Ended) : Type 0 where
   pub stops : (session_final b).stop ≡ stop_at b r.stop
+  pub shown : ShownOf b r.stop r.shown
   pub replies : (session_final b).last ≡ last_of r.last
   pub within : Within (length b) r.stop
   pub near : NearLast r.last

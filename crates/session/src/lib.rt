@@ -14,11 +14,11 @@ ghost use Rattle.tally.specs.Figures.{figures};
 ghost use Rattle.session.specs.Meaning.{stop_line};
 ghost use Rattle.session.specs.Stepping.{StepsAt};
 ghost use Rattle.session.specs.Looping.{Begins};
-ghost use Rattle.session.specs.Carried.{Within, Carried, filled, lines_of, Answered};
+ghost use Rattle.session.specs.Carried.{Within, ShownOf, Carried, filled, lines_of, Answered};
 
 use limits::MIN_BUFFER;
 use refusals::{Refusal, Refused};
-use state::{Answer, Session, Verdict};
+use state::{Answer, Cause, Session, Verdict};
 use tally::Tally;
 use text::Writer;
 use wire::Header;
@@ -42,7 +42,15 @@ impl From<Answer> for Reply {
         match a {
             Answer::Accepted => Reply::Accepted,
             Answer::Content(v) => Reply::Content(v),
-            Answer::Took(t, v) => Reply::Took(t, v),
+            // Taken apart to the last field: of a verdict that is handed on whole the bytes between its fields go along too, and so with every answer of a run.
+            Answer::Took(t, Verdict::Valid) => Reply::Took(t, Verdict::Valid),
+            Answer::Took(t, Verdict::Invalid(cause)) => Reply::Took(
+                t,
+                Verdict::Invalid(Cause {
+                    sheet: cause.sheet,
+                    rule: cause.rule,
+                }),
+            ),
             Answer::Commits => Reply::Commits,
             Answer::CommitsLater => Reply::Commits,
             Answer::SecondRun => Reply::SecondRun,
@@ -60,12 +68,13 @@ pub struct Walked {
     pub stop: Result<(), Refused>,
 }
 
-// What a run comes to: the report's length, the last accepted command's answer, and the stop.
+// What a run comes to: the report's length, the last accepted command's answer, the stop, and how many bytes are shown of what it stops at.
 #[derive(Clone, Copy)]
 pub struct Ended {
     pub size: usize,
     pub last: Option<Reply>,
     pub stop: Result<(), Refused>,
+    pub shown: usize,
 }
 
 // R p c, after a refusal only.
@@ -149,6 +158,17 @@ pub fn walk(session: &[u8], x: &mut Session) -> Walked
     Walked { tally, last, stop }
 }
 
+// How many bytes are shown of what a walk stops at, asked once, at the end.
+fn shown_at(session: &[u8], stop: Result<(), Refused>) -> usize
+    requires { Within (length session.now) stop }
+    ensures { ShownOf session.now stop result }
+{
+    match stop {
+        Ok(()) => 0,
+        Err(r) => wire::shown(&session[r.place..]),
+    }
+}
+
 // Carries a session with this header through, and writes its report if it is lent room for one. The state's tables live here: for as many
 // sheets as a session may have, of zeros, which `Session::fresh` makes the fresh state.
 pub fn run(session: &[u8], report: &mut [u8], header: Header) -> Ended
@@ -181,5 +201,6 @@ pub fn run(session: &[u8], report: &mut [u8], header: Header) -> Ended
         size,
         last: r.last.map(Reply::from),
         stop: r.stop,
+        shown: shown_at(session, r.stop),
     }
 }

@@ -1,10 +1,10 @@
 -- The tables that a command may change, and what it is for a command to do what its rule says.
-use Rattle.std.specs.Prelude.{ℕ, ◌≡◌, List, Result}
+use Rattle.std.specs.Prelude.{ℕ, ◌≡◌, List, length, Result}
 use Rattle.rules.specs.Bytes.{Command}
 use Rattle.rules.specs.State.{Tally, State}
 use Rattle.rules.specs.Steps as rules
 use Rattle.refusals.specs.declared.Refusal.{Refusal}
-use Rattle.state.specs.View.{shown_by, tables, result_in, advanced_in}
+use Rattle.state.specs.View.{shown, shown_by, tables, result_in, advanced_in}
 use Rattle.state.specs.Fit.{Fit}
 use Rattle.state.specs.Slices.{Slices, slices}
 use Rattle.state.specs.declared.Answer.{Answer}
@@ -36,10 +36,12 @@ all b s q value seen w x = slices b s q value seen w
 
 -- ---- What stays as it was
 
--- a session's references are the same, and its number of sheets
+-- a session's references are the same, its number of sheets, and how long its tables are
 abbrev pub Same : Session → Session → Type 0
 Same x x' = (x'.m ≡ x.m) × (x'.bytes.ghost_name ≡ x.bytes.ghost_name) × (x'.sets.ghost_name ≡ x.sets.ghost_name) × (x'.queues.ghost_name ≡ x.queues.ghost_name)
     × (x'.value.ghost_name ≡ x.value.ghost_name) × (x'.seen.ghost_name ≡ x.seen.ghost_name) × (x'.sheets.ghost_name ≡ x.sheets.ghost_name)
+    × (length x'.bytes.now ≡ length x.bytes.now) × (length x'.sets.now ≡ length x.sets.now) × (length x'.queues.now ≡ length x.queues.now)
+    × (length x'.value.now ≡ length x.value.now) × (length x'.seen.now ≡ length x.seen.now) × (length x'.sheets.now ≡ length x.sheets.now)
 
 -- so, and its tables are those before, but for these
 pub record Only (after : Lent) (x x' : Session) : Type 0 where
@@ -57,7 +59,12 @@ pub record Only (after : Lent) (x x' : Session) : Type 0 where
 pub record Steps (before : Tally → State) (c : Command) (after : Tally → State) (r : Result Answer Refusal) : Type 0 where
   pub equation : (tally : Tally) → ◌≡◌ {A = rules.Stepped} (record { state = after (advanced_in tally r); result = result_in r }) (rules.step (before tally) c)
 
--- the same of a session
+-- it does what its rule says, and sizes and sets stand, by these tables alone: whatever the others are
+pub record Alone (m : ℕ) (before : Lent) (c : Command) (after : Lent) (r : Result Answer Refusal) : Type 0 where
+  pub moves : (y : Slices) → Steps (shown m (before y)) c (shown m (after y)) r
+  pub kept : (y : Slices) → Fit m (before y) → Fit m (after y)
+
+-- so of a session's own tables
 abbrev pub Moves : (before : Session) → Command → (after : Session) → Result Answer Refusal → Type 0
 Moves x c x' r = Steps (shown_by x) c (shown_by x') r
 

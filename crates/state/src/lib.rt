@@ -286,6 +286,7 @@ impl<'a> Session<'a> {
         requires { Blank (length owners.now) (slices bytes.old sets.old queues.old value.old seen.old sheets.old) × ((k : _) → get_or owners.now k 0 < 8) }
         ensures same_references { Holds result bytes.entry sets.entry queues.entry value.entry seen.entry sheets.entry }
         ensures starts { (result.m ≡ length owners.now) × Starts nodes owners.now (tables result) }
+        ensures long { (length result.bytes.now ≡ length bytes.old) × (length result.sets.now ≡ length sets.old) }
         ensures untouched { (result.queues.now ≡ queues.old) × (result.value.now ≡ value.old) × (result.seen.now ≡ seen.old) × (result.sheets.now ≡ sheets.old) }
     {
         bytes[Session::NODE_COUNT] = nodes;

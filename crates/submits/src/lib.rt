@@ -6,7 +6,7 @@ ghost use Rattle.rules.specs.Bytes.{Submit};
 ghost use Rattle.sets.specs.Bit.{bit, stride, blocks};
 ghost use Rattle.state.specs.View.{rows};
 ghost use Rattle.state.specs.Fit.{Sets, ReadyIn};
-ghost use Rattle.state.specs.Lent.{saving, Only, Moves, Keeps};
+ghost use Rattle.state.specs.Lent.{saving, Only, Alone, Moves, Keeps};
 ghost use Rattle.submits.specs.Wide.{asks, wide_in};
 
 use refusals::Refusal;
@@ -48,6 +48,8 @@ pub fn submit(x: &mut Session, t: u8) -> Result<Answer, Refusal>
     ensures moves { Moves x.old (Submit t) x.new result }
     ensures kept { Keeps x.old x.new }
     ensures only { Only (saving x.new.bytes.now x.new.sets.now x.new.queues.now) x.old x.new }
+    ensures alone { Alone x.old.m (saving x.old.bytes.now x.old.sets.now x.old.queues.now) (Submit t)
+        (saving x.new.bytes.now x.new.sets.now x.new.queues.now) result }
 {
     let i = state::save_index(t)?;
     let p = x.bytes[Session::PHASE + i];

@@ -7,7 +7,7 @@ ghost use Rattle.sets.specs.Bit.{bit};
 ghost use Rattle.queues.specs.Front.{Ranked};
 ghost use Rattle.state.specs.View.{queued, queued_x, QUEUE};
 ghost use Rattle.state.specs.Fit.{Table, Last, Kept, ReadyIn};
-ghost use Rattle.state.specs.Lent.{saving, Only, Moves, Keeps};
+ghost use Rattle.state.specs.Lent.{saving, taking, Only, Alone, Moves, Keeps};
 ghost use Rattle.takes.specs.Take.{RuleAt, Taken};
 
 use refusals::Refusal;
@@ -56,6 +56,8 @@ pub fn take(x: &mut Session, n: u8) -> Result<Answer, Refusal>
     ensures moves { Moves x.old (Take n) x.new result }
     ensures kept { Keeps x.old x.new }
     ensures only { Only (saving x.new.bytes.now x.new.sets.now x.new.queues.now) x.old x.new }
+    ensures alone { Alone x.old.m (taking x.old.bytes.now x.old.sets.now x.old.queues.now x.old.seen.now x.old.sheets.now) (Take n)
+        (taking x.new.bytes.now x.new.sets.now x.new.queues.now x.old.seen.now x.old.sheets.now) result }
 {
     if x.bytes[Session::NODE_COUNT] <= n {
         return Err(Refusal::OutOfRange);

@@ -8,7 +8,7 @@ use native.Mathlib.Omega.{arith}
 use borrow.Author.Tests.{lt-ltb, le-ltb, ltb-true, ltb-false}
 use lib.Dec.{ltb}
 use lib.ListN.{length, length-append}
-use Rattle.rules.specs.Report.{figures, decimal}
+use Rattle.rules.specs.Report.{figures, decimal, field}
 use Rattle.text.specs.declared.Writer.{Writer}
 use Rattle.text.specs.Wrote.{Wrote}
 use Rattle.text.specs.Writes.{Writes}
@@ -80,6 +80,22 @@ decimal_short (suc k) n h =
     (λ l.
     let s = decimal_short k (n / 10) (omega (arith, pow-suc 10 (suc k))) in
     rw (decimal_high n l, length-append) (omega arith))
+
+-- a field, by a tenth of its number
+field_size : (n : ℕ) → length (field n) ≡ 1 + length (decimal n)
+unfolding field
+field_size n = omega arith
+
+pub field_low : (n : ℕ) → n < 10 → length (field n) ≡ 2
+field_low n h = let e = ap length (decimal_low n h) in omega (arith, field_size n)
+
+pub field_high : (n : ℕ) → 10 ≤ n → length (field n) ≡ 1 + length (field (n / 10))
+field_high n h =
+    let e = ap length (decimal_high n h) ∙ length-append (decimal (n / 10)) (last n) in
+    omega (arith, field_size n, field_size (n / 10))
+
+pub field_short : (n : ℕ) → n < 2 ^ 32 → length (field n) ≤ 11
+field_short n h = let s = decimal_short 9 n (omega arith) in omega (arith, field_size n)
 
 -- what was written is the number, a u32
 pub decimal_written : {l m x : List ℕ} {a b u : ℕ} (n : ℕ) → n < 2 ^ 32 → decimal n ≡ x → Wrote l a x u b m → Wrote l a (decimal n) 10 b m

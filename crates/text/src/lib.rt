@@ -125,6 +125,17 @@ impl<'a> Writer<'a> {
     }
 }
 
+// How many bytes a field has: a blank and the figures.
+pub fn field_size(n: u32) -> usize
+    ensures size { result ≡ length (rules.field n) }
+    ensures small { result ≤ 11 }
+{
+    if 10 <= n {
+        return 1 + field_size(n / 10);
+    }
+    2
+}
+
 // A number in decimal figures, without leading zeros. Kept: it takes the buffer and the place, since a writer that is lent to a function that
 // calls itself stays in memory, and each byte is then stored with the place.
 fn decimal(buf: &mut [u8], at: usize, n: u32) -> usize

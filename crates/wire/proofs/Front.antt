@@ -2,7 +2,7 @@
 use mathlib.Core.Path.{◌≡◌, refl, sym, ap, ◌∙◌}
 use mathlib.Core.List.{List, [], ◌∷◌}
 use mathlib.Core.Option.{Option, none, some}
-use Prim.Native.Nat.{ℕ, zero, suc, ◌-◌, ◌≤◌, ◌<◌}
+use Prim.Native.Nat.{ℕ, zero, suc, ◌+◌, ◌-◌, ◌≤◌, ◌<◌}
 use native.Mathlib.Nat.{zero-add}
 use native.Mathlib.Omega.{arith}
 use borrow.Author.Tests.{lt-ltb, le-ltb, eqb-true}
@@ -13,7 +13,7 @@ use Rattle.rules.specs.Bytes.{Form, Front, unknown, cut, whole, Command, Begin, 
 use Rattle.rules.proofs.Table.{bool}
 use Rattle.std.specs.Int.{from_be_bytes}
 use Rattle.std.proofs.Common.{w32}
-use Rattle.wire.specs.Meaning.{front_in}
+use Rattle.wire.specs.Meaning.{front_in, shown_in}
 
 -- what `&s[a..]` lends
 pub rest : (s : List ℕ) (a : ℕ) → take (length s - a) (drop a s) ≡ drop a s
@@ -175,3 +175,20 @@ module _ (s : List ℕ) (n : 1 ≤ length s) where
 
   pub rest_long : (k w : ℕ) → operand_bytes k ≡ w → get_or s 0 0 ≡ k → 0 < w → w ≤ length (behind s) → some (whole (command_by (form_of k commands) (behind s)) (width_of (form_of k commands))) ≡ front_in s
   rest_long k w z e p h = rest_whole s _ there (ap some (sym (front_long (get_or s 0 0) (behind s) k w z e p h)))
+
+-- ---- What is shown
+
+module _ (s : List ℕ) where
+  pub shown_none : length s ≡ 0 → 0 ≡ shown_in (front_in s) (length s)
+  shown_none e = rw (sym (rest_end s e))
+
+  module _ (w : ℕ) (some : length s ≡ 0 → ⊥) (e : w ≡ operand_bytes (get_or s 0 0)) where
+    pub shown_unknown : w ≡ 0 → 1 ≡ shown_in (front_in s) (length s)
+    shown_unknown z = rw (front_some s some, front_unknown (get_or s 0 0) (drop 1 s) (sym e ∙ z))
+
+    pub shown_cut : length s ≤ w → length s ≡ shown_in (front_in s) (length s)
+    shown_cut h = rw (front_some s some, front_cut (get_or s 0 0) (drop 1 s) (rw (length-drop 1 s, ← e) (let n = some in omega arith)))
+
+    pub shown_whole : 0 < w → w < length s → 1 + w ≡ shown_in (front_in s) (length s)
+    unfolding operand_bytes
+    shown_whole p h = rw (front_some s some, whole_by (form_of (get_or s 0 0) commands) (drop 1 s) (rw e at p) (rw (length-drop 1 s, ← e) (omega arith)), ← e) (omega arith)

@@ -8,7 +8,7 @@ use native.Mathlib.Omega.{arith}
 use borrow.Author.Tests.{le-leb, leb-true, ltb-true, eqb-true, eqb-false}
 use lib.Dec.{leb, ltb, eqb}
 use lib.ListN.{length, take, drop, length-take, length-drop, get_or-eq_default}
-use lib.Seq.{take_all}
+use lib.Seq.{take_all, get_or-take, get_or-drop}
 use Rattle.rules.specs.Table.{all}
 use Rattle.rules.proofs.Table.{bool, below?, and_l, and_r, all_at}
 use Rattle.rules.specs.Sizes.{max_nodes, max_sheets, max_session}
@@ -107,7 +107,10 @@ module _ (b : List ℕ) (h : Opens b) where
   tested r e = e ∙ rw (many, lent_is b)
 
 module _ (b : List ℕ) (k : ℕ) where
-  owner_beyond : byte b 1 ≤ k → 0 ≡ (header b).owner k
+  pub owner_in : k < byte b 1 → byte b (2 + k) ≡ (header b).owner k
+  owner_in h = rw (get_or-take, get_or-drop)
+
+  pub owner_beyond : byte b 1 ≤ k → 0 ≡ (header b).owner k
   owner_beyond h = sym (get_or-eq_default (take (byte b 1) (drop 2 b)) 0 (rw length-take (omega arith)))
 
 -- a session that opens has a byte for each sheet's owner

@@ -1,3 +1,4 @@
+pub mod Headings
 pub mod Steps
 pub mod Ahead
 pub mod Lists

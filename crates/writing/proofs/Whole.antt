@@ -5,13 +5,10 @@ use mathlib.Core.Bool.{true, false}
 use mathlib.Core.List.{List, [], ◌∷◌, ◌++◌, append-nil}
 use native.Mathlib.Nat.{mod-eq_of_lt}
 use native.Mathlib.Omega.{arith}
-use borrow.Author.Tests.{lt-ltb, le-ltb, lt-leb, eqb-true}
-use lib.Dec.{eqb}
+use borrow.Author.Tests.{lt-ltb, le-ltb, lt-leb}
 use Rattle.std.specs.Prelude.{Ok, Err}
 use lib.ListN.{length, take, drop, length-append, length-take, drop_of_length-le}
-use Rattle.rules.specs.Bytes.{in_range}
-use Rattle.rules.proofs.Table.{and_l}
-use Rattle.rules.specs.Writing.{at, header_of, heading_fits, Written, bytes, write, write_into, wrote, refuse_with, Call, write_call, instructions}
+use Rattle.rules.specs.Writing.{at, heading_fits, Written, bytes, write, write_into, wrote, refuse_with, Call, write_call, instructions}
 use Rattle.rules.specs.Sizes.{max_session}
 use Rattle.rules.specs.Report.{Filled}
 use Rattle.rules.proofs.Writing.{writes}
@@ -21,6 +18,7 @@ use Rattle.refusals.specs.declared.Refused.{Refused}
 use Rattle.wire.specs.Refusing.{refused_at}
 use Rattle.writing.specs.declared.Sizes.{Sizes}
 use Rattle.writing.specs.Meaning.{heading_of, Tested, steps_of, session_of}
+use Rattle.writing.proofs.Headings.{fits_has}
 
 whole_length : (n m : ℕ) (o ws : List ℕ) → length (session_of n m o ws) ≡ 2 + (length o + length (steps_of ws))
 whole_length n m o ws = omega (arith, length-append o (steps_of ws))
@@ -45,7 +43,7 @@ module _ (n m : ℕ) (o ws room : List ℕ) where
     f = sym t
 
     count : length o ≡ m
-    count = eqb-true (length o) m (and_l (eqb (length o) m) (in_range (header_of (heading_of n m o))) f)
+    count = (fits_has n m o f).count
 
     pub step_refused : (r : Refused) → Tested n m (instructions ws) (Err r) → answers (record { outcome = refuse_with (refused_at r); room = room })
     unfolding write_call write
@@ -77,7 +75,7 @@ module _ (n m : ℕ) (o ws room : List ℕ) where
           abbrev part : List ℕ
           part = take (2 + m + s.bytes) room
 
-          part_fits : length (session_of n m o ws) ≡ length part
+          pub part_fits : length (session_of n m o ws) ≡ length part
           part_fits = size_of h ∙ rw length-take (omega arith)
 
           pub written : {k : List ℕ} {u : ℕ} → Wrote part 0 (session_of n m o ws) (length (session_of n m o ws)) u k → answers (record { outcome = wrote u; room = k ++ drop (2 + m + s.bytes) room })

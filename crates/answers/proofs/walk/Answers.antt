@@ -1,13 +1,14 @@
 -- The room is lent on to `tell`; what is known before each step is `Telling`, and each need is one law.
-use Rattle.std.proofs.Common.{rules, refl}
+use Rattle.std.proofs.Common.{rules}
 use native.Mathlib.Omega.{arith}
+use Rattle.state.proofs.Lending.{same_first}
 use Rattle.session.proofs.Needs.{is_ready, is_rising}
 use Rattle.session.proofs.Stepping.{fits, has_size}
 use Rattle.answers.proofs.Passing.{starts, may_tell, tells, may_refuse, refuses, ends}
 use Rattle.answers.proofs.walk.Goals as goal
 
 pub loop-a-init : goal.loop-a-init
-loop-a-init c = (starts c.requires c.args.room.now, (refl, refl, refl, refl, refl, refl, refl))
+loop-a-init c = (starts c.requires c.args.room.now, same_first c.args.x.now)
 
 pub step_at-requires : goal.step_at-requires
 step_at-requires c =

@@ -5,16 +5,31 @@ use Rattle.applies.proofs.Applying.{node8, apply_out, apply_11, done_committed, 
 use Rattle.std.proofs.Common.{rules}
 use Rattle.applies.proofs.apply.Goals as goal
 
-pub returns-then-p-lt-COMMITTED-clause-moves : goal.returns-then-p-lt-COMMITTED-clause-moves
-returns-then-p-lt-COMMITTED-clause-moves c = let x = c.args.x.now in apply_out c.requires.0 c.args.n c.if-x-n.false c.in_ok-i.ensures x.value.now x.sheets.now c.if-p-lt-COMMITTED.true c.out_of_phase.ensures (tables x)
+pub returns-then-p-lt-COMMITTED : goal.returns-then-p-lt-COMMITTED
+returns-then-p-lt-COMMITTED c =
+    let x = c.args.x.now in
+    let out = apply_out c.requires.0 c.args.n c.if-x-n.false c.in_ok-i.ensures x.value.now x.sheets.now c.if-p-lt-COMMITTED.true c.out_of_phase.ensures in record {
+      moves = out (tables x);
+      kept = λ f. f;
+      marks = search rules;
+      only = search rules;
+      alone = record { moves = out; kept = λ y f. f };
+    }
 
 pub has_entry-requires : goal.has_entry-requires
 has_entry-requires c = let k = c.requires.0.kept in let row = c.in_ok-i.ensures in
     rw row.0 (k.sized.sets, c.requires.0.known.sheets16, node8 c.requires.0 c.args.n c.if-x-n.false row, row.1, k.sets.ends)
 
-pub returns-then-not-has_entry-clause-moves : goal.returns-then-not-has_entry-clause-moves
-returns-then-not-has_entry-clause-moves c = let x = c.args.x.now in
-    apply_11 c.requires.0 c.args.n c.if-x-n.false c.in_ok-i.ensures x.value.now x.sheets.now c.if-p-lt-COMMITTED.false c.has_entry.ensures c.if-not-has_entry.true (tables x)
+pub returns-then-not-has_entry : goal.returns-then-not-has_entry
+returns-then-not-has_entry c =
+    let x = c.args.x.now in
+    let out = apply_11 c.requires.0 c.args.n c.if-x-n.false c.in_ok-i.ensures x.value.now x.sheets.now c.if-p-lt-COMMITTED.false c.has_entry.ensures c.if-not-has_entry.true in record {
+      moves = out (tables x);
+      kept = λ f. f;
+      marks = search rules;
+      only = search rules;
+      alone = record { moves = out; kept = λ y f. f };
+    }
 
 pub leave-requires : goal.leave-requires
 leave-requires c = let k = c.requires.0.kept in let row = c.in_ok-i.ensures in let n8 = node8 c.requires.0 c.args.n c.if-x-n.false row in
@@ -32,6 +47,7 @@ returns-then-p-eq-COMMITTED c =
       kept = all.1.0 (tables x);
       marks = λ e. all.1.1 (tables x);
       only = search rules;
+      alone = record { moves = all.0; kept = all.1.0 };
     }
 
 pub returns-else-p-eq-COMMITTED : goal.returns-else-p-eq-COMMITTED
@@ -42,4 +58,5 @@ returns-else-p-eq-COMMITTED c =
       kept = all.1.0 (tables x);
       marks = λ e. all.1.1 (tables x);
       only = search rules;
+      alone = record { moves = all.0; kept = all.1.0 };
     }

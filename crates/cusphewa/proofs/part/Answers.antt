@@ -7,7 +7,7 @@ pub returns-in_default : goal.returns-in_default
 returns-in_default c = part_bad _ (sym c.read_header.ensures ∙ c.in_default.is)
 
 pub returns-in-Ok : goal.returns-in-Ok
-returns-in-Ok c = part_end _ _ (sym c.read_header.ensures ∙ c.in-Some.is) _ c.unreported.ensures c.in-Ok.is
+returns-in-Ok c = part_end _ _ (sym c.read_header.ensures ∙ c.in-Some.is) _ c.unreported-e.ensures c.in-Ok.is
 
 pub returns-in-Err : goal.returns-in-Err
-returns-in-Err c = part_refused _ _ (sym c.read_header.ensures ∙ c.in-Some.is) _ c.unreported.ensures c.in-Err.r c.in-Err.is c.shown.ensures
+returns-in-Err c = part_refused _ _ (sym c.read_header.ensures ∙ c.in-Some.is) _ c.unreported-e.ensures c.in-Err.r c.in-Err.is

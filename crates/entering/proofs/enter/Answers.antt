@@ -1,6 +1,6 @@
 use mathlib.Core.Path.{refl, ◌∙◌}
 use native.Mathlib.Omega.{arith}
-use Rattle.state.proofs.Lending.{same_on}
+use Rattle.state.proofs.Lending.{same_first, same_on}
 use Rattle.state.proofs.Rows.{in_blocks}
 use Rattle.entering.proofs.Rowing.{row_first, row_words, row_queues, row_inside, row_on, row_skip, row_end}
 use Rattle.entering.proofs.enter.Goals as goal
@@ -10,7 +10,7 @@ pub loop-j-init : goal.loop-j-init
 loop-j-init c = let x = c.args.x.now in record {
   rowing = row_first x.m c.args.n c.args.t x.seen.now x.sheets.now x.sets.now x.queues.now;
   only = record {
-    same = (refl, refl, refl, refl, refl, refl, refl);
+    same = same_first c.args.x.now;
     bytes = refl;
     sets = refl;
     queues = refl;
@@ -34,7 +34,7 @@ loop-j-preserved c =
       | then-ours-ne0 w ↦ let e = w.enter_block-fails.ensures.only in rw (w.x-is, w.first-is) (record {
         rowing = rw e.sets (row_on g jb r.6 r.5 c.ours_in-ours.result c.ours_in-ours.ensures r.7 w.hold.ensures (rw o.same.0 at w.enter_block-fails.ensures.entered)
             (omega (arith, w.enter_block-fails.type_inv)) (rw (o.same.0, o.seen, o.sheets) at w.enter_block-fails.ensures.late) (w.or-first.ensures ∙ rw w.first_in.ensures));
-        only = record { same = same_on c.args.x.now c.loop-j.x w.enter_block-fails.new.x o.same e.same; bytes = e.bytes ∙ o.bytes; sets = refl; queues = refl; value = e.value ∙ o.value; seen = e.seen ∙ o.seen; sheets = e.sheets ∙ o.sheets };
+        only = record { same = same_on c.args.x.now c.loop-j.x w.enter_block-fails.new.x o.same (let s = e.same in (s.0, s.1, s.2, s.3, s.4, s.5, s.6, s.7, s.8 ∙ w.hold.ensures.long, s.9, s.10, s.11, s.12)); bytes = e.bytes ∙ o.bytes; sets = refl; queues = refl; value = e.value ∙ o.value; seen = e.seen ∙ o.seen; sheets = e.sheets ∙ o.sheets };
       })
       | else-ours-ne0 w ↦ rw (w.x-is, w.first-is) (record {
         rowing = row_skip g jb r.6 r.5 c.ours_in-ours.result c.ours_in-ours.ensures r.7 w.if-ours-ne0.false;

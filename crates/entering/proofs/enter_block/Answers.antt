@@ -1,5 +1,6 @@
 use native.Mathlib.Omega.{arith}
 use mathlib.Core.Path.{refl, ◌∙◌}
+use Rattle.state.proofs.Lending.{same_first}
 use Rattle.sets.proofs.Loops.{at_digit}
 use Rattle.entering.proofs.Entering.{going_first, going_step, going_end, at_sheet}
 use Rattle.entering.proofs.enter_block.Goals as goal
@@ -8,7 +9,7 @@ pub loop-left-init : goal.loop-left-init
 loop-left-init c = record {
   going = going_first c.args.x.now.queues.now c.ranges.ours.fits;
   only = record {
-    same = (refl, refl, refl, refl, refl, refl, refl);
+    same = same_first c.args.x.now;
     bytes = refl;
     sets = refl;
     queues = refl;
@@ -30,7 +31,7 @@ pub loop-left-preserved : goal.loop-left-preserved
 loop-left-preserved c = let l = c.loop-left.invariant in let o = l.only in record {
   going = going_step l.going c.loop-left-test.true c.requires.6 c.lowest-i.ensures c.rest-left.ensures c.has-in-loop-left.ensures
       (c.behind-late.ensures ∙ rw (o.same.0, o.seen, o.sheets)) c.has.ensures (c.enter_sheet-held.ensures.entered c.args.x.now.m) c.enter_sheet-held.ensures.held c.with_if-fails.ensures;
-  only = record { same = o.same; bytes = o.bytes; sets = o.sets; queues = refl; value = o.value; seen = o.seen; sheets = o.sheets };
+  only = record { same = let s = o.same in (s.0, s.1, s.2, s.3, s.4, s.5, s.6, s.7, s.8, c.enter_sheet-held.auto.q ∙ s.9, s.10, s.11, s.12); bytes = o.bytes; sets = o.sets; queues = refl; value = o.value; seen = o.seen; sheets = o.sheets };
 }
 
 pub returns : goal.returns

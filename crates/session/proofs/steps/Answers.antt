@@ -1,12 +1,13 @@
 -- What is known of the state before each step is `Looping`; each need is one law.
 use Rattle.std.proofs.Common.{◌≡◌, Err, rules, refl}
 use native.Mathlib.Omega.{arith}
+use Rattle.state.proofs.Lending.{same_first}
 use Rattle.session.proofs.Needs.{starts, is_ready, is_rising}
 use Rattle.session.proofs.Stepping.{fits, has_size, goes_on, ends, stops}
 use Rattle.session.proofs.steps.Goals as goal
 
 pub loop-a-init : goal.loop-a-init
-loop-a-init c = (rw c.requires.2 (starts c.requires.0 c.requires.1), (refl, refl, refl, refl, refl, refl, refl))
+loop-a-init c = (rw c.requires.2 (starts c.requires.0 c.requires.1), same_first c.args.x.now)
 
 pub step_at-requires : goal.step_at-requires
 step_at-requires c =

@@ -16,11 +16,17 @@ returns-then-p-eq-FIRST_RUN c =
       moves = all.0 x;
       kept = all.1 x;
       only = search rules;
+      alone = record { moves = all.0; kept = all.1 };
     }
 
-pub returns-then-p-ne-SECOND_RUN-clause-moves : goal.returns-then-p-ne-SECOND_RUN-clause-moves
-returns-then-p-ne-SECOND_RUN-clause-moves c =
-    out c.requires c.in_ok-i.ensures c.out_of_phase.ensures c.if-p-eq-FIRST_RUN.false c.if-p-ne-SECOND_RUN.true (tables c.args.x.now)
+pub returns-then-p-ne-SECOND_RUN : goal.returns-then-p-ne-SECOND_RUN
+returns-then-p-ne-SECOND_RUN c =
+    let refuses = out c.requires c.in_ok-i.ensures c.out_of_phase.ensures c.if-p-eq-FIRST_RUN.false c.if-p-ne-SECOND_RUN.true in record {
+      moves = refuses (tables c.args.x.now);
+      kept = λ f. f;
+      only = search rules;
+      alone = record { moves = refuses; kept = λ y f. f };
+    }
 
 pub is_wide-requires : goal.is_wide-requires
 is_wide-requires c = let k = c.requires.kept in let row = c.in_ok-i.ensures in rw row.0 (k.sized.sets, c.requires.known.sheets16, row.1, k.sets)
@@ -40,12 +46,16 @@ returns-then-is_wide c =
       moves = all.0 x;
       kept = all.1 x;
       only = search rules;
+      alone = record { moves = all.0; kept = all.1 };
     }
 
 pub returns : goal.returns
 returns c =
-    let x = tables c.args.x.now in record {
-      moves = commits c.requires c.in_ok-i.ensures c.if-p-ne-SECOND_RUN.false (sym c.if-is_wide.false ∙ c.is_wide.ensures) x;
-      kept = commits_keeps c.requires c.in_ok-i.ensures x;
+    let x = tables c.args.x.now in
+    let ends = commits c.requires c.in_ok-i.ensures c.if-p-ne-SECOND_RUN.false (sym c.if-is_wide.false ∙ c.is_wide.ensures) in
+    let fits = commits_keeps c.requires c.in_ok-i.ensures in record {
+      moves = ends x;
+      kept = fits x;
       only = search rules;
+      alone = record { moves = ends; kept = fits };
     }

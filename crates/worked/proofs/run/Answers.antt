@@ -9,6 +9,7 @@ use Rattle.state.specs.View.{tables, shown_by}
 use Rattle.state.specs.Fit.{Known}
 use Rattle.state.proofs.Fresh.{blank_zeros}
 use Rattle.state.proofs.Known.{ready, rising}
+use Rattle.state.proofs.Lending.{same_first}
 use Rattle.worked.specs.Worked.{state_after}
 use Rattle.worked.proofs.Certain.{owner_small, known_after, rises_after, onward}
 use borrow.Author.Rules.{rules}
@@ -21,7 +22,7 @@ pub loop-i-init : goal.loop-i-init
 unfolding state_after fresh
 loop-i-init g c =
     let s = c.fresh-x.ensures.starts in
-    ((refl, refl, refl, refl, refl, refl, refl), rw s.0 s.1.fit, rw s.0 s.1.shows)
+    (same_first c.fresh-x.result, rw s.0 s.1.fit, rw s.0 s.1.shows)
 
 pub step-requires : goal.step-requires
 step-requires g c =

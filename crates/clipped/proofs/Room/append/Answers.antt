@@ -1,5 +1,6 @@
 -- Byte by byte: before byte i the first i stand there.
 use native.Mathlib.Omega.{arith}
+use borrow.Author.Rules.{rules}
 use lib.ListN.{length-set}
 use Rattle.clipped.proofs.Laws.{one_stored, cut_off}
 use Rattle.clipped.proofs.Room.append.Goals as goal
@@ -15,4 +16,6 @@ returns c =
     let v = c.loop-i.invariant in
     let z = c.min-i-end.ensures in
     let y = c.saturating_sub-fits.ensures in
-    record { same = v.same; long = v.long; wrote = rw v.place (cut_off c.args.self.now.at c.loop-i.i c.args.text.now (omega arith) (λ h. omega arith) v.stored) }
+    let w = cut_off c.args.self.now.at c.loop-i.i c.args.text.now (omega arith) (λ h. omega arith) v.stored in
+    let p = v.place in
+    record { same = v.same; long = v.long; wrote = record { ends = search rules; bytes = w.bytes; short = w.short } }

@@ -1,7 +1,7 @@
 -- The node count is stored, and each sheet joins its owner's set.
 use mathlib.Core.Path.{◌≡◌, refl}
 use native.Mathlib.Omega.{arith}
-use lib.ListN.{length}
+use lib.ListN.{length, length-set}
 use Rattle.state.specs.Slices.{slices}
 use Rattle.state.proofs.Fresh.{owned_none, owned_on, starts, owner_fits}
 use Rattle.state.proofs.Session.fresh.Goals as goal
@@ -22,6 +22,7 @@ loop-k-preserved c = let k = c.loop-k.k in
 pub returns : goal.returns
 returns c = record {
   same_references = record { bytes = refl; sets = refl; queues = refl; value = refl; seen = refl; sheets = refl };
+  long = (rw length-set refl, c.loop-k.invariant.long);
   starts =
       let e : c.loop-k.k ≡ length c.args.owners.now = omega arith in
       let x = slices c.args.bytes.now c.args.sets.now c.args.queues.now c.args.value.now c.args.seen.now c.args.sheets.now in
